@@ -1,9 +1,10 @@
 -- What a table has to keep: the number of tasks, their ranges, different ranks, and the band of the policy.
 use Prim.Native.Nat.{ℕ, _-_}
 use mathlib.Core.Bool.{Bool, true, false, _&&_, not}
+use mathlib.Core.Path.{_≡_}
 use mathlib.Core.List.{List, [], _∷_}
 use lib.Dec.{eqb}
-use lib.ListN.{length}
+use lib.ListN.{length, getD}
 use Rattle.table.specs.Sporadic.{Sporadic, within, every, task-in-range}
 use Rattle.table.specs.declared.kinds.Mode.{Mode}
 use Rattle.table.specs.declared.kinds.PolicyCode.{PolicyCode}
@@ -34,3 +35,14 @@ ranks-differ (t ∷ ts) = rank-free (t .rank) ts && ranks-differ ts
 
 unfoldable pub follows-rules : PolicyCode → ℕ → List Sporadic → Bool
 follows-rules policy band ts = within 1 24 (length ts) && (band-in-range policy (length ts) band && (every (task-in-range (length ts)) ts && ranks-differ ts))
+
+-- a task set that a checked table can hold
+abbrev pub Checked : Task-set → Type 0
+Checked s = follows-rules (s .policy) (s .band) (s .tasks) ≡ true
+
+abbrev pub task-count : Task-set → ℕ
+task-count s = length (s .tasks)
+
+-- the task of a number; past the last one, a task that no statement speaks of
+abbrev pub task-at : Task-set → ℕ → Sporadic
+task-at s i = getD (s .tasks) i (record { cost = 1; period = 1; deadline = 1; rank = 1; name = [] })

@@ -3,7 +3,7 @@ ghost use mathlib.Core.List.{map};
 ghost use mathlib.Core.Path.{_≡_};
 ghost use lib.ListN.{length};
 ghost use Rattle.table.specs.Content.{sporadic};
-ghost use Rattle.table.specs.Model.{content};
+ghost use Rattle.table.specs.Model.{content, Found};
 use super::Table;
 use crate::kinds::Mode;
 use crate::kinds::PolicyCode;
@@ -41,5 +41,12 @@ impl Table {
         ensures { λ r. ⌜ map sporadic (now r) ≡ content (now (self .entry)) .tasks ⌝ }
     {
         &self.tasks[0..self.count]
+    }
+
+    /// The task of this number; none where the table has no such task.
+    pub fn task(&self, number: usize) -> Option<Task>
+        ensures { λ r. ⌜ Found (content (now (self .entry))) number r ⌝ }
+    {
+        if number < self.count { Some(self.tasks[number]) } else { None }
     }
 }
