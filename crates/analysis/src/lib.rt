@@ -1,0 +1,8 @@
+//! The judgement: response-time analysis of a checked table under any policy.
+pub mod rows;
+
+pub use rows::Judgement;
+pub use rows::Row;
+pub use rows::Verdict;
+
+ghost use Rattle.analysis.specs.Judged.{Judged};

@@ -1,0 +1,5 @@
+pub mod Order
+pub mod Laws
+pub mod Answers
+pub mod Orders
+pub mod Pairs

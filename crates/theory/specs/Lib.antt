@@ -1,0 +1,5 @@
+pub mod Sums
+pub mod LeastSolution
+pub mod BusyPeriod
+pub mod Response
+pub mod Worst
