@@ -3,3 +3,7 @@ pub mod LeastSolution
 pub mod BusyPeriod
 pub mod Response
 pub mod Worst
+pub mod Lists
+pub mod Machine
+pub mod Course
+pub mod Guarantee

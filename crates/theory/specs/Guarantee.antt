@@ -1,0 +1,42 @@
+-- What the judgement promises of every run, for a checked task set with a busy period L and any lawful order.
+use Prim.Native.Nat.{ℕ, _+_, _≤_, _<_}
+use mathlib.Core.Bool.{true, false}
+use mathlib.Core.List.{List, [], _∷_, _++_}
+use mathlib.Core.Path.{_≡_}
+use Rattle.table.specs.Rules.{Task-set, task-at, task-count}
+use Rattle.table.specs.declared.refusal.Refusal.{Refusal}
+use Rattle.policy.specs.Order.{Order}
+use Rattle.theory.specs.Lists.{In}
+use Rattle.theory.specs.Machine.{Work, State, Call, Answer, Refused, Finished, start, play, answers}
+use Rattle.theory.specs.Course.{lead, worst-course}
+use Rattle.theory.specs.Worst.{Worst}
+
+-- the state of the reference machine after a list of calls
+abbrev pub after : Task-set → Order → List Call → State
+after s o calls = play s o start calls
+
+-- every task's worst response is within its deadline
+abbrev pub Admitted-by : Task-set → Order → ℕ → Type 0
+Admitted-by s o L = (i r a : ℕ) → i < task-count s → Worst s o L i r a → r ≤ task-at s i .deadline
+
+-- some task's worst response exceeds its deadline
+abbrev pub Late-by : Task-set → Order → ℕ → Type 0
+Late-by s o L = (i : ℕ) × (r : ℕ) × (a : ℕ) × (i < task-count s) × Worst s o L i r a × (task-at s i .deadline < r)
+
+-- (a) after every list of calls, each unfinished job is younger than the worst response of its task
+abbrev pub Never-longer : Task-set → Order → ℕ → Type 0
+Never-longer s o L = (calls : List Call) (w : Work) (r a : ℕ) → In w (after s o calls .jobs) → w .finished ≡ false → Worst s o L (w .task) r a → after s o calls .time < w .release + r
+
+-- (b) in an admitted task set no call of a task's worst course is refused, and its last answer tells the job that finishes with the worst response
+abbrev pub Attained : Task-set → Order → ℕ → Type 0
+Attained s o L = Admitted-by s o L → (i r a : ℕ) → i < task-count s → Worst s o L i r a
+  → ((e : Refusal) → In (Refused e) (answers s o start (worst-course s o i a r)) → ⊥)
+  × ((before : List Answer) × (answers s o start (worst-course s o i a r) ≡ before ++ (Finished i (lead s o i a + a) r ∷ [])))
+
+-- some list of calls leaves a job unfinished at its deadline
+abbrev pub Misses : Task-set → Order → Type 0
+Misses s o = (calls : List Call) × (w : Work) × In w (after s o calls .jobs) × (w .finished ≡ false) × (after s o calls .time ≡ w .release + task-at s (w .task) .deadline)
+
+-- (c) late exactly when some list of calls leaves a job unfinished at its deadline
+abbrev pub Late-exactly : Task-set → Order → ℕ → Type 0
+Late-exactly s o L = (Late-by s o L → Misses s o) × (Misses s o → Late-by s o L)
