@@ -1,0 +1,4 @@
+pub mod Sums
+pub mod Growth
+pub mod Windows
+pub mod Bests

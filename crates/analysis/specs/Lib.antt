@@ -1,1 +1,5 @@
 pub mod Judged
+pub mod Lanes
+pub mod Climb
+pub mod Best
+pub mod Own

@@ -1,8 +1,9 @@
 //! The judgement: response-time analysis of a checked table under any policy.
+pub mod lanes;
 pub mod rows;
+pub mod window;
 
 pub use rows::Judgement;
 pub use rows::Row;
 pub use rows::Verdict;
-
 ghost use Rattle.analysis.specs.Judged.{Judged};

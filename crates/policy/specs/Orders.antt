@@ -14,14 +14,22 @@ use Rattle.policy.specs.declared.job.Reach.the-variants.{Always, Never, Within
 abbrev pub fixed-order : Task-set → Order
 fixed-order s = record {
   ahead = λ x y. cond (eqb (x .task) (y .task)) (ltZ (x .release) (y .release)) (ltb (task-at s (x .task) .rank) (task-at s (y .task) .rank));
-  reach = λ i j. cond (ltb (task-at s j .rank) (task-at s i .rank)) Always Never
+  reach = λ i j. cond (ltb (task-at s j .rank) (task-at s i .rank)) Always Never;
 }
 
--- the earlier release plus a constant of the task is ahead, and a tie goes to the lower task number
+-- of two keys the smaller is ahead, and a tie goes to the lower task number
+abbrev pub key-ahead : ℕ → ℤ → ℕ → ℤ → Bool
+key-ahead i u j v = cond (ltb i j) (leZ u v) (ltZ u v)
+
+-- how much later than a job of i, which adds m, a job of j, which adds n, may be released and still have the key ahead
+abbrev pub key-reach : ℕ → ℕ → ℕ → ℕ → ℤ
+key-reach i m j n = (pos m -ℤ pos n) -ℤ pos (cond (ltb i j) 1 0)
+
+-- the key of a job is its release plus a constant of its task
 abbrev pub keyed-order : (ℕ → ℕ) → Order
 keyed-order offset = record {
-  ahead = λ x y. cond (ltb (x .task) (y .task)) (leZ (x .release +ℤ pos (offset (x .task))) (y .release +ℤ pos (offset (y .task)))) (ltZ (x .release +ℤ pos (offset (x .task))) (y .release +ℤ pos (offset (y .task))));
-  reach = λ i j. Within ((pos (offset i) -ℤ pos (offset j)) -ℤ pos (cond (ltb i j) 1 0))
+  ahead = λ x y. key-ahead (x .task) (x .release +ℤ pos (offset (x .task))) (y .task) (y .release +ℤ pos (offset (y .task)));
+  reach = λ i j. Within (key-reach i (offset i) j (offset j));
 }
 
 -- Deadline: the earlier absolute deadline is ahead
@@ -36,5 +44,5 @@ arrival-order = keyed-order (λ i. 0)
 abbrev pub bands-order : ℕ → Order → Order → Order
 bands-order k first second = record {
   ahead = λ x y. cond (ltb (x .task) k) (cond (ltb (y .task) k) (first .ahead x y) true) (cond (ltb (y .task) k) false (second .ahead x y));
-  reach = λ i j. cond (ltb i k) (cond (ltb j k) (first .reach i j) Never) (cond (ltb j k) Always (second .reach i j))
+  reach = λ i j. cond (ltb i k) (cond (ltb j k) (first .reach i j) Never) (cond (ltb j k) Always (second .reach i j));
 }

@@ -1,13 +1,12 @@
--- What is settled of a reach before any order is asked: outside the table, and from a task to itself.
-use Prim.Native.Nat.{ℕ, _<_}
-use mathlib.Core.Path.{_≡_}
-use Rattle.std.specs.declared.option.Option.{Option}
-use Rattle.std.specs.declared.option.Option.the-variants.{Some, None}
+-- What is settled of a reach before the order speaks: Never outside the table, and 0 from a task to itself.
+use Prim.Native.Nat.{ℕ}
+use mathlib.Core.Bool.{_&&_, cond}
+use lib.Dec.{eqb, ltb}
+use lib.IntN.{pos}
 use Rattle.table.specs.Rules.{Task-set, task-count}
-use Rattle.policy.specs.Answers.{reach-answer}
-use Rattle.policy.specs.Order.{Order}
 use Rattle.policy.specs.declared.job.Reach.{Reach}
+use Rattle.policy.specs.declared.job.Reach.the-variants.{Never, Within}
 
-abbrev pub Settled : Task-set → ℕ → ℕ → Option Reach → Type 0
-Settled s i j None = (o : Order) → reach-answer s o i j ≡ o .reach i j
-Settled s i j (Some x) = (o : Order) → reach-answer s o i j ≡ x
+-- the reach from i to j that a call answers where the order has `asked`
+abbrev pub settled-reach : Task-set → ℕ → ℕ → Reach → Reach
+settled-reach s i j asked = cond (ltb i (task-count s) && ltb j (task-count s)) (cond (eqb i j) (Within (pos 0)) asked) Never

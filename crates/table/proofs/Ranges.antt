@@ -72,6 +72,7 @@ module _ (s : Task-set) (checked : Checked s) where
       taken ts k d rank h free e =
           let other : not (eqb (getD ts k d .rank) rank) ≡ true = every-at (λ (t : Sporadic). not (eqb (t .rank) rank)) ts k d h free in
           let z : _≡_ {A = ℕ} 0 1 = grind (arith, tells) in omega arith
+
       apart : (ts : List Sporadic) (a b : ℕ) (d : Sporadic) → a < length ts → b < length ts → ranks-differ ts ≡ true → getD ts a d .rank ≡ getD ts b d .rank → a ≡ b
       apart [] a b d ha hb r e = absurd (not-suc-le-zero ha)
       apart (t ∷ ts) zero zero d ha hb r e = ap (λ (x : ℕ). x) (omega arith)

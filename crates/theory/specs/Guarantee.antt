@@ -30,8 +30,8 @@ Never-longer s o L = (calls : List Call) (w : Work) (r a : ℕ) → In w (after 
 -- (b) in an admitted task set no call of a task's worst course is refused, and its last answer tells the job that finishes with the worst response
 abbrev pub Attained : Task-set → Order → ℕ → Type 0
 Attained s o L = Admitted-by s o L → (i r a : ℕ) → i < task-count s → Worst s o L i r a
-  → ((e : Refusal) → In (Refused e) (answers s o start (worst-course s o i a r)) → ⊥)
-  × ((before : List Answer) × (answers s o start (worst-course s o i a r) ≡ before ++ (Finished i (lead s o i a + a) r ∷ [])))
+    → ((e : Refusal) → In (Refused e) (answers s o start (worst-course s o i a r)) → ⊥)
+    × ((before : List Answer) × (answers s o start (worst-course s o i a r) ≡ before ++ (Finished i (lead s o i a + a) r ∷ [])))
 
 -- some list of calls leaves a job unfinished at its deadline
 abbrev pub Misses : Task-set → Order → Type 0

@@ -10,5 +10,4 @@ ghost use Rattle.theory.specs.Worst.{Worst};
 pub fn analysis_is_unique()
     ensures busy { λ _. ⌜ ((s : Task-set) (L M : ℕ) → Busy-period s L → Busy-period s M → L ≡ M) ⌝ }
     ensures worst { λ _. ⌜ ((s : Task-set) (o : Order) (L i r a q b : ℕ) → Worst s o L i r a → Worst s o L i q b → (r ≡ q) × (a ≡ b)) ⌝ }
-{
-}
+{}

@@ -47,6 +47,10 @@ impl Table {
     pub fn task(&self, number: usize) -> Option<Task>
         ensures { λ r. ⌜ Found (content (now (self .entry))) number r ⌝ }
     {
-        if number < self.count { Some(self.tasks[number]) } else { None }
+        if number < self.count {
+            Some(self.tasks[number])
+        } else {
+            None
+        }
     }
 }

@@ -15,5 +15,5 @@ one-worst s o L i r a q b x y =
 pub returns : need.returns
 returns c = record {
   busy = λ s L M x y. le-antisymm (x .least M (y .from) (y .solves)) (y .least L (x .from) (x .solves));
-  worst = one-worst
+  worst = one-worst;
 }
