@@ -2,3 +2,8 @@ pub mod Sums
 pub mod Growth
 pub mod Windows
 pub mod Bests
+pub mod Counting
+pub mod Bridge
+pub mod Exact
+pub mod Filling
+pub mod Loads

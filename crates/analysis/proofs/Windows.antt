@@ -7,7 +7,7 @@ use native.Mathlib.Nat.{mul-le-mul-right, mul-le-mul}
 use native.Mathlib.Omega.{arith}
 use Rattle.std.proofs.shelf.Ways.{tells}
 use Rattle.std.proofs.shelf.Lists.{getD-map}
-use lib.Dec.{ltb}
+use lib.Dec.{ltb, leb}
 use lib.ListN.{length, length-map}
 use Rattle.theory.specs.BusyPeriod.{ceil-div}
 use Rattle.theory.specs.LeastSolution.{Least-solution}
@@ -109,3 +109,15 @@ same-window w ls ms same a v = ap₂ _+_ (own (w .mode)) (ap (λ ys. lanes-work 
     own : (m : Mode) → work-in m (w .cost) (w .period) ls a ≡ work-in m (w .cost) (w .period) ms a
     own Preemptive = refl
     own NonPreemptive = ap (λ b. 1 + (b + a / w .period * w .cost)) block
+
+-- a least solution up to a cap is one of any function that agrees up to there
+pub least-upto : (low t cap : ℕ) (W V : ℕ → ℕ) → ((v : ℕ) → v ≤ cap → W v ≡ V v) → t ≤ cap → Least-solution low W t → Least-solution low V t
+least-upto low t cap W V same inside s = record {
+  from = s .from;
+  solves = s .solves ∙ same t inside;
+  least = λ v from fixed. go v from fixed (leb v cap) refl
+}
+  where
+    go : (v : ℕ) → low ≤ v → v ≡ V v → (b : Bool) → leb v cap ≡ b → t ≤ v
+    go v from fixed true e = let small : v ≤ cap = grind (arith, tells) in s .least v from (fixed ∙ sym (same v small))
+    go v from fixed false e = let big : cap < v = grind (arith, tells) in omega arith

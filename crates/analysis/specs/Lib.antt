@@ -3,3 +3,5 @@ pub mod Lanes
 pub mod Climb
 pub mod Best
 pub mod Own
+pub mod Reaches
+pub mod Busy

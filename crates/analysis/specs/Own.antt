@@ -25,8 +25,9 @@ own-work w ls a = work-in (w .mode) (w .cost) (w .period) ls a
 abbrev pub window-work : Own → List Lane → ℕ → ℕ → ℕ
 window-work w ls a t = own-work w ls a + lanes-work (map (limited a) ls) t
 
-abbrev pub Lane-response : Own → List Lane → ℕ → ℕ → Type 0
-Lane-response w ls a r = (t : ℕ) × Least-solution 1 (window-work w ls a) t × (r ≡ response-in (w .mode) (w .cost) a t)
+-- the response at offset a is r, by a solution of at most `busy`
+abbrev pub Lane-response : Own → List Lane → ℕ → ℕ → ℕ → Type 0
+Lane-response w ls busy a r = (t : ℕ) × (t ≤ busy) × Least-solution 1 (window-work w ls a) t × (r ≡ response-in (w .mode) (w .cost) a t)
 
 pub record Sound-own (w : Own) : Type 0 where
   pub cost-low : 1 ≤ w .cost

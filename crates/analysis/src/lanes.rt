@@ -16,6 +16,9 @@ pub struct Lane {
     pub limit: u32,
 }
 
+// A lane that has no work.
+pub(crate) const IDLE: Lane = Lane { cost: 0, period: 1, lead: 0, limit: 0 };
+
 // Jobs of the lane released before t that come ahead.
 fn jobs(lane: Lane, t: u32) -> u32
     requires sound { ⌜ Sound-lane lane ⌝ }

@@ -101,7 +101,7 @@ pub(crate) fn worst_response(own: Own, lanes: &mut [Lane], busy: u32) -> (u32, u
     requires short { ⌜ busy ≤ 60000 ⌝ }
     requires some { ⌜ 1 ≤ busy ⌝ }
     requires fits { ⌜ ((a : ℕ) → a < busy → window-work own (now lanes) a busy ≤ busy) ⌝ }
-    ensures { λ r. ⌜ Best (Lane-response own (now (lanes .entry))) busy (r .0) (r .1) ⌝ }
+    ensures best { λ r. ⌜ Best (Lane-response own (now (lanes .entry)) busy) busy (r .0) (r .1) ⌝ }
 {
     let mut best = (0, 0);
     let mut last = Solved { work: 0, at: 1 };
