@@ -82,17 +82,19 @@ module _ (s : Task-set) (o : Order) (checked : Checked s) (lawful : Lawful s o) 
     where
       both : (ltb i (task-count s) && ltb j (task-count s)) ≡ true
       both = grind (arith, tells)
+
       apart : eqb i j ≡ false
       apart = grind (arith, tells)
 
   pub made-sound : Sound ls
   made-sound = record {
     few = subst (λ n. n ≤ 24) (sym (made .long)) (count-ranges s checked .1);
-    each = λ j h. let k : j < task-count s = subst (λ n. j < n) (made .long) h in one j k
+    each = λ j h. let k : j < task-count s = subst (λ n. j < n) (made .long) h in one j k;
   }
     where
       costs : (j : ℕ) → j < task-count s → cond (eqb j i) 0 (task-at s j .cost) ≤ 4096
       costs j k = let r = task-ranges s checked j k in grind (arith, tells, r .cost-high)
+
       one : (j : ℕ) → j < task-count s → Sound-lane (lane-at ls j)
       one j k =
           let l = made .each j k in
@@ -148,6 +150,7 @@ module _ (s : Task-set) (o : Order) (checked : Checked s) (lawful : Lawful s o) 
       none : (b : Bool) (c : ℕ) → c ≡ 0 → cond b (c - 1) 0 ≡ 0
       none true c e = omega (arith, e)
       none false c e = refl
+
       each : (j : ℕ) → j < task-count s → (b : Bool) → eqb j i ≡ b → cond (eqb j i) 0 (cond (o .ahead (job i (pos a)) (job j (negsuc 0))) (task-at s j .cost - 1) 0) ≡ cond (ltb (a + lane-at ls j .lead + 1) 100000) (lane-at ls j .cost - 1) 0
       each j h true e =
           let free : lane-at ls j .cost ≡ 0 = made .each j h .0 ∙ ap (λ b. cond b 0 (task-at s j .cost)) e in

@@ -26,8 +26,10 @@ below-ceil k t d pos = go (ltb (k * d) t) refl
   where
     to : k * d < t → k < ceil-div t d
     to h = le-div-iff-mul-le pos .1 (omega (arith, suc-mul k d))
+
     from : k < ceil-div t d → k * d < t
     from h = omega (arith, le-div-iff-mul-le pos .0 h, suc-mul k d)
+
     go : (b : Bool) → ltb (k * d) t ≡ b → ltb (k * d) t ≡ ltb k (ceil-div t d)
     go true e = let h : k * d < t = grind (arith, tells) in let l = to h in grind (arith, tells)
     go false e = e ∙ sym (none (ltb k (ceil-div t d)) refl)
@@ -51,8 +53,10 @@ below-limit k d base x pos = go (ltb x base) refl
       where
         to : k * d + base ≤ x → k ≤ (x - base) / d
         to l = le-div-iff-mul-le pos .1 (omega arith)
+
         from : k ≤ (x - base) / d → k * d + base ≤ x
         from l = omega (arith, le-div-iff-mul-le pos .0 l)
+
         two : (b : Bool) → leb (k * d + base) x ≡ b → leb (k * d + base) x ≡ ltb k ((x - base) / d + 1)
         two true e = let l : k * d + base ≤ x = grind (arith, tells) in let m = to l in grind (arith, tells)
         two false e = e ∙ sym (three (ltb k ((x - base) / d + 1)) refl)
@@ -60,6 +64,7 @@ below-limit k d base x pos = go (ltb x base) refl
             three : (c : Bool) → ltb k ((x - base) / d + 1) ≡ c → ltb k ((x - base) / d + 1) ≡ false
             three true f = let l : k ≤ (x - base) / d = grind (arith, tells) in let m = from l in let z : _≡_ {A = ℕ} 0 1 = grind (arith, tells) in absurd (omega arith)
             three false f = f
+
     go : (b : Bool) → ltb x base ≡ b → leb (k * d + base) x ≡ ltb k (cond (ltb x base) 0 ((x - base) / d + 1))
     go true e =
         let less : x < base = grind (arith, tells) in

@@ -121,10 +121,13 @@ module _ (s : Task-set) (o : Order) (checked : Checked s) (lawful : Lawful s o) 
     where
       counted : 1 + a / task-at s i .period ≤ ceil-div L (task-at s i .period)
       counted = own-count a L (task-at s i .period) (task-ranges s checked i known .period-low) h
+
       alone : (x : ℕ) → x ≤ (1 + a / task-at s i .period) * task-at s i .cost → x + lanes-work (map (limited a) ls) L ≤ L
       alone x hx = omega (arith, covered a x i 0 known (λ e. refl) (own-whole a (1 + a / task-at s i .period) x counted hx) (omega (arith, own-part a i known refl)))
+
       split : (1 + a / task-at s i .period) * task-at s i .cost ≡ task-at s i .cost + a / task-at s i .period * task-at s i .cost
       split = add-mul 1 (a / task-at s i .period) (task-at s i .cost) ∙ omega arith
+
       blocked : (j : ℕ) → j < length ls → (b : Bool) → ltb (a + lane-at ls j .lead + 1) 100000 ≡ b → cond b (lane-at ls j .cost - 1) 0 ≡ lanes-block ls a → 1 ≤ lanes-block ls a → 1 + (lanes-block ls a + a / task-at s i .period * task-at s i .cost) + lanes-work (map (limited a) ls) L ≤ L
       blocked j k false e v some = absurd (omega (arith, v, some))
       blocked j k true e v some =
@@ -138,10 +141,12 @@ module _ (s : Task-set) (o : Order) (checked : Checked s) (lawful : Lawful s o) 
           let full : 1 * task-at s j .cost ≤ ceil-div L (task-at s j .period) * task-at s j .cost = mul-le-mul-right (task-at s j .cost) (omega (arith, own-count 0 L (task-at s j .period) (ranges .period-low) (omega (arith, busy .from)))) in
           let other : j ≡ i → 1 + lanes-block ls a ≡ 0 = λ same. absurd (let mine : eqb j i ≡ true = grind (arith, tells) in let free : lane-at ls j .cost ≡ 0 = lane .0 ∙ ap (λ b. cond b 0 (task-at s j .cost)) mine in omega (arith, free, v, some)) in
           omega (arith, covered a (a / task-at s i .period * task-at s i .cost) j (1 + lanes-block ls a) hj other (own-whole a (1 + a / task-at s i .period) (a / task-at s i .period * task-at s i .cost) counted (omega (arith, split))) (omega (arith, none, full, v, cost)))
+
       free-or-blocked : (lanes-block ls a ≡ 0) ⊎ ((j : ℕ) × (j < length ls) × (cond (ltb (a + lane-at ls j .lead + 1) 100000) (lane-at ls j .cost - 1) 0 ≡ lanes-block ls a)) → (b : Bool) → ltb 0 (lanes-block ls a) ≡ b → 1 + (lanes-block ls a + a / task-at s i .period * task-at s i .cost) + lanes-work (map (limited a) ls) L ≤ L
       free-or-blocked (inl z) b e = alone (1 + (lanes-block ls a + a / task-at s i .period * task-at s i .cost)) (omega (arith, z, split, task-ranges s checked i known .cost-low))
       free-or-blocked (inr w) false e = let z : lanes-block ls a ≡ 0 = grind (arith, tells) in alone (1 + (lanes-block ls a + a / task-at s i .period * task-at s i .cost)) (omega (arith, z, split, task-ranges s checked i known .cost-low))
       free-or-blocked (inr w) true e = let some : 1 ≤ lanes-block ls a = grind (arith, tells) in blocked (w .0) (w .1) (ltb (a + lane-at ls (w .0) .lead + 1) 100000) refl (w .2) some
+
       go : (m : Mode) → work-in m (task-at s i .cost) (task-at s i .period) ls a + lanes-work (map (limited a) ls) L ≤ L
       go Preemptive = alone ((1 + a / task-at s i .period) * task-at s i .cost) (omega arith)
       go NonPreemptive = free-or-blocked (max-reached (length ls) (λ j. cond (ltb (a + lane-at ls j .lead + 1) 100000) (lane-at ls j .cost - 1) 0)) (ltb 0 (lanes-block ls a)) refl
@@ -161,16 +166,18 @@ module _ (s : Task-set) (o : Order) (checked : Checked s) (lawful : Lawful s o) 
     where
       preemptive : s .mode ≡ Preemptive → Least-solution 1 (until-finish s o i a) t
       preemptive mode = least-upto 1 t 60001 (window-work (own-of s i) ls a) (until-finish s o i a) (λ v small. sym (finish-lanes mode a v (omega arith) small)) (omega arith) solved
+
       nonpreemptive : s .mode ≡ NonPreemptive → Least-solution 0 (until-start s o i a) (t - 1)
       nonpreemptive mode = record {
         from = omega arith;
         solves = let back : suc (t - 1) ≡ t = omega (arith, solved .from) in let e = start-lanes mode a (t - 1) (omega arith) (omega (arith, solved .from)) in omega (arith, e, ap (window-work (own-of s i) ls a) back, solved .solves);
-        least = λ v from fixed. by-size v fixed (leb (suc v) 60001) refl mode
+        least = λ v from fixed. by-size v fixed (leb (suc v) 60001) refl mode;
       }
         where
           by-size : (v : ℕ) → v ≡ until-start s o i a v → (b : Bool) → leb (suc v) 60001 ≡ b → s .mode ≡ NonPreemptive → t - 1 ≤ v
           by-size v fixed true e m = let small : suc v ≤ 60001 = grind (arith, tells) in omega (arith, solved .least (suc v) (omega arith) (ap suc fixed ∙ start-lanes m a v (omega arith) small))
           by-size v fixed false e m = let big : 60001 < suc v = grind (arith, tells) in omega arith
+
       go : (m : Mode) → s .mode ≡ m → Response-in (s .mode) s o i a r
       go Preemptive e = subst (λ m. Response-in m s o i a r) (sym e) (t, preemptive e, gives ∙ ap (λ m. response-in m (task-at s i .cost) a t) e)
       go NonPreemptive e = subst (λ m. Response-in m s o i a r) (sym e) (t - 1, nonpreemptive e, gives ∙ ap (λ m. response-in m (task-at s i .cost) a t) e)
@@ -181,7 +188,7 @@ module _ (s : Task-set) (o : Order) (checked : Checked s) (lawful : Lawful s o) 
     inside = best .inside;
     given = lanes-exact a r (best .inside) (best .given);
     longest = λ b x h given. let w = best .longest b h in omega (arith, w .2, one-response s o i b x (w .0) given (lanes-exact b (w .0) h (w .1)));
-    least = λ b h given. not-before b given (ltb b a) refl
+    least = λ b h given. not-before b given (ltb b a) refl;
   }
     where
       not-before : (b : ℕ) → Response-at s o i b r → (c : Bool) → ltb b a ≡ c → a ≤ b

@@ -7,3 +7,4 @@ pub mod Bridge
 pub mod Exact
 pub mod Filling
 pub mod Loads
+pub mod OneRow

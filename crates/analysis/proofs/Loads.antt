@@ -23,7 +23,7 @@ module _ (s : Task-set) (checked : Checked s) (ls : List Lane) (long : length ls
   pub full-sound : Sound ls
   full-sound = record {
     few = subst (λ n. n ≤ 24) (sym long) (count-ranges s checked .1);
-    each = λ j h. let k : j < task-count s = subst (λ n. j < n) long h in one j k
+    each = λ j h. let k : j < task-count s = subst (λ n. j < n) long h in one j k;
   }
     where
       one : (j : ℕ) → j < task-count s → Sound-lane (lane-at ls j)

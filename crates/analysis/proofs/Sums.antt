@@ -49,6 +49,7 @@ sum-plus (suc n) f i x h = go (eqb n i) refl (sum-plus n f i x)
   where
     before : (m : ℕ) → m ≤ i → sum-below m (λ j. f j + cond (eqb j i) x 0) ≡ sum-below m f
     before m k = sum-same m (λ j. f j + cond (eqb j i) x 0) f (λ j l. grind (arith, tells))
+
     go : (b : Bool) → eqb n i ≡ b → (i < n → sum-below n (λ j. f j + cond (eqb j i) x 0) ≡ sum-below n f + x) → sum-below n (λ j. f j + cond (eqb j i) x 0) + (f n + cond (eqb n i) x 0) ≡ sum-below n f + f n + x
     go true e ih =
         let here : cond (eqb n i) x 0 ≡ x = ap (λ b. cond b x 0) e in

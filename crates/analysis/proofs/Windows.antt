@@ -115,7 +115,7 @@ pub least-upto : (low t cap : ℕ) (W V : ℕ → ℕ) → ((v : ℕ) → v ≤ 
 least-upto low t cap W V same inside s = record {
   from = s .from;
   solves = s .solves ∙ same t inside;
-  least = λ v from fixed. go v from fixed (leb v cap) refl
+  least = λ v from fixed. go v from fixed (leb v cap) refl;
 }
   where
     go : (v : ℕ) → low ≤ v → v ≡ V v → (b : Bool) → leb v cap ≡ b → t ≤ v

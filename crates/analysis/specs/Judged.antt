@@ -18,20 +18,27 @@ use Rattle.analysis.specs.declared.rows.Verdict.{Verdict}
 use Rattle.analysis.specs.declared.rows.Verdict.the-variants.{Admitted, Late}
 
 -- the row of a number; past the last one, a row that no statement speaks of
+abbrev pub no-row : Row
+no-row = record { response = 0; offset = 0; deadline = 0 }
+
 abbrev pub row-at : List Row → ℕ → Row
-row-at rows i = getD rows i (record { response = 0; offset = 0; deadline = 0 })
+row-at rows i = getD rows i no-row
 
 -- the row of task i tells its worst response, the least offset that gives it, and its deadline
 abbrev pub Row-of : Task-set → Order → ℕ → ℕ → Row → Type 0
 Row-of s o L i row = Worst s o L i (row .response) (row .offset) × (row .deadline ≡ task-at s i .deadline)
 
+-- responses and offsets are below 100,000
+abbrev pub Small-row : Row → Type 0
+Small-row row = (row .response < 100000) × (row .offset < 100000)
+
 abbrev pub Meets : List Row → ℕ → Type 0
 Meets rows i = row-at rows i .response ≤ row-at rows i .deadline
 
--- admitted: every task meets its deadline; late: with the lowest-numbered task that does not
-abbrev pub Verdict-of : Task-set → List Row → Verdict → Type 0
-Verdict-of s rows Admitted = (i : ℕ) → i < task-count s → Meets rows i
-Verdict-of s rows (Late k) = (k < task-count s) × (row-at rows k .deadline < row-at rows k .response) × ((i : ℕ) → i < k → Meets rows i)
+-- of the first n rows: admitted where each meets its deadline; late with the lowest-numbered that does not
+abbrev pub Verdict-of : ℕ → List Row → Verdict → Type 0
+Verdict-of n rows Admitted = (i : ℕ) → i < n → Meets rows i
+Verdict-of n rows (Late k) = (k < n) × (row-at rows k .deadline < row-at rows k .response) × ((i : ℕ) → i < k → Meets rows i)
 
 -- a judgement that is given: one row for each task, and further rows untouched
 pub record Given (s : Task-set) (o : Order) (before after : List Row) (j : Judgement) : Type 0 where
@@ -40,7 +47,7 @@ pub record Given (s : Task-set) (o : Order) (before after : List Row) (j : Judge
   pub busy : Busy-period s (j .«busy_period»)
   pub rows : (i : ℕ) → i < task-count s → Row-of s o (j .«busy_period») i (row-at after i)
   pub rest : drop (task-count s) after ≡ drop (task-count s) before
-  pub verdict : Verdict-of s after (j .verdict)
+  pub verdict : Verdict-of (task-count s) after (j .verdict)
 
 -- refused for too few rows, and then for want of a busy period; the rows stay as they were
 abbrev pub Judged : Task-set → Order → List Row → List Row → Result Judgement Refusal → Type 0

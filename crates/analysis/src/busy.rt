@@ -19,7 +19,12 @@ fn full_lane(table: &Table, j: usize) -> Lane
     ensures { λ r. ⌜ (j < task-count (content (now (table .entry))) → Full-lane (task-at (content (now (table .entry))) j) r) ⌝ }
 {
     match table.task(j) {
-        Some(task) => Lane { cost: task.cost, period: task.period, lead: 0, limit: 70_000 },
+        Some(task) => Lane {
+            cost: task.cost,
+            period: task.period,
+            lead: 0,
+            limit: 70_000,
+        },
         None => IDLE,
     }
 }

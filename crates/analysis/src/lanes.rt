@@ -17,7 +17,12 @@ pub struct Lane {
 }
 
 // A lane that has no work.
-pub(crate) const IDLE: Lane = Lane { cost: 0, period: 1, lead: 0, limit: 0 };
+pub(crate) const IDLE: Lane = Lane {
+    cost: 0,
+    period: 1,
+    lead: 0,
+    limit: 0,
+};
 
 // Jobs of the lane released before t that come ahead.
 fn jobs(lane: Lane, t: u32) -> u32

@@ -12,7 +12,7 @@ use Rattle.table.proofs.Tables.{table-checked}
 use Rattle.table.specs.declared.checked.Table.{Table}
 use Rattle.analysis.specs.Busy.{Full-lane, Busy}
 use Rattle.analysis.specs.Climb.{Climbed}
-use Rattle.analysis.specs.Lanes.{lane-at, lanes-work, Sound}
+use Rattle.analysis.specs.Lanes.{no-lane, lane-at, lanes-work, Sound}
 use Rattle.analysis.specs.declared.lanes.Lane.{Lane}
 use Rattle.analysis.proofs.Filling.{few-tasks, front-long, front-at}
 use Rattle.analysis.proofs.Loads.{full-sound, climbed-busy, none-overloaded}
@@ -25,11 +25,11 @@ module _ (t : Table) (ls : List Lane) (n : ℕ) (long : length ls ≡ 24) (count
 
   same-count : length front ≡ task-count (content t)
   unfolding front
-  same-count = front-long ls n long (omega (arith, count, few-tasks t)) ∙ count
+  same-count = front-long ls n (omega (arith, long, count, few-tasks t)) ∙ count
 
   all-full : (j : ℕ) → j < task-count (content t) → Full-lane (task-at (content t) j) (lane-at front j)
   unfolding front
-  all-full j h = subst (Full-lane (task-at (content t) j)) (sym (front-at ls n j (omega (arith, count)))) (each j h)
+  all-full j h = subst (Full-lane (task-at (content t) j)) (sym (front-at ls n j no-lane (omega (arith, count)))) (each j h)
 
   sound : Sound front
   sound = full-sound (content t) (table-checked t) front same-count all-full
@@ -46,7 +46,7 @@ unfolding front
 climb-requires c κs = record {
   sound = sound (c .args .table .now) (c .full-lanes-lanes .result) (c .count .result) (c .full-lanes-lanes .ensures .room) (c .count .ensures) (c .full-lanes-lanes .ensures .each);
   short = omega arith;
-  light = omega arith
+  light = omega arith;
 }
 
 pub returns : need.returns
