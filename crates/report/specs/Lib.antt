@@ -1,0 +1,3 @@
+pub mod Pasted
+pub mod Text
+pub mod Reported
