@@ -2,3 +2,4 @@
 ghost use Rattle.theory.specs.Guarantee.{Never-longer};
 
 pub mod facts;
+pub mod guarantee;

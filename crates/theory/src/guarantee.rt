@@ -1,0 +1,14 @@
+//! What the judgement promises of every run, on the contract of a function that does nothing else.
+ghost use Prim.Native.Nat.{ℕ, _≤_};
+ghost use Rattle.table.specs.Rules.{Task-set, Checked};
+ghost use Rattle.policy.specs.Order.{Order};
+ghost use Rattle.policy.specs.Laws.{Lawful};
+ghost use Rattle.theory.specs.BusyPeriod.{Busy-period};
+ghost use Rattle.theory.specs.Guarantee.{Never-longer, Attained, Late-exactly};
+
+/// For every checked table with a busy period of at most 60,000 ticks and every lawful order: no response exceeds the worst one, the worst courses give it in an admitted table, and a table is late exactly when some run misses a deadline.
+pub fn judgement_holds_in_runs()
+    ensures never_longer { λ _. ⌜ ((s : Task-set) (o : Order) (L : ℕ) → Checked s → Lawful s o → Busy-period s L → L ≤ 60000 → Never-longer s o L) ⌝ }
+    ensures attained { λ _. ⌜ ((s : Task-set) (o : Order) (L : ℕ) → Checked s → Lawful s o → Busy-period s L → L ≤ 60000 → Attained s o L) ⌝ }
+    ensures late_exactly { λ _. ⌜ ((s : Task-set) (o : Order) (L : ℕ) → Checked s → Lawful s o → Busy-period s L → L ≤ 60000 → Late-exactly s o L) ⌝ }
+{}
