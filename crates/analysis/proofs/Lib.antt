@@ -8,3 +8,4 @@ pub mod Exact
 pub mod Filling
 pub mod Loads
 pub mod OneRow
+pub mod Promises

@@ -39,3 +39,4 @@ pub mod Present
 pub mod Late
 pub mod Attain
 pub mod Guaranteed
+pub mod QueueLimit

@@ -5,9 +5,11 @@ use mathlib.Core.List.{List, [], _∷_, _++_}
 use mathlib.Core.Path.{_≡_}
 use Rattle.table.specs.Rules.{Task-set, task-at, task-count}
 use Rattle.table.specs.declared.refusal.Refusal.{Refusal}
+use Rattle.table.specs.declared.refusal.Refusal.the-variants.{QueueFull}
+use Rattle.std.specs.declared.option.Option.the-variants.{Some}
 use Rattle.policy.specs.Order.{Order}
 use Rattle.theory.specs.Lists.{In}
-use Rattle.theory.specs.Machine.{Work, State, Call, Answer, Refused, Finished, start, play, answers}
+use Rattle.theory.specs.Machine.{Work, State, Call, release, Answer, Refused, Finished, refusal, start, play, answers}
 use Rattle.theory.specs.Course.{lead, worst-course}
 use Rattle.theory.specs.Worst.{Worst}
 
@@ -40,3 +42,15 @@ Misses s o = (calls : List Call) × (w : Work) × In w (after s o calls .jobs) �
 -- (c) late exactly when some list of calls leaves a job unfinished at its deadline
 abbrev pub Late-exactly : Task-set → Order → ℕ → Type 0
 Late-exactly s o L = (Late-by s o L → Misses s o) × (Misses s o → Late-by s o L)
+
+-- after these calls some job is unfinished with its deadline reached
+abbrev pub Overdue-after : Task-set → Order → List Call → Type 0
+Overdue-after s o calls = (w : Work) × In w (after s o calls .jobs) × (w .finished ≡ false) × (w .release + task-at s (w .task) .deadline ≤ after s o calls .time)
+
+-- a release that is refused for a full line finds a deadline already missed
+abbrev pub Full-line-overdue : Task-set → Order → Type 0
+Full-line-overdue s o = (calls : List Call) (j k : ℕ) → refusal s (after s o calls) (release j) ≡ Some (QueueFull k) → Overdue-after s o calls
+
+-- in an admitted task set no list of calls meets a full line
+abbrev pub Never-full : Task-set → Order → ℕ → Type 0
+Never-full s o L = Admitted-by s o L → (calls : List Call) (k : ℕ) → In (Refused (QueueFull k)) (answers s o start calls) → ⊥
