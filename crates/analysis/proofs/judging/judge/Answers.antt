@@ -50,7 +50,6 @@ returns g c =
     } in
     record {
       judged = given;
-      small = c .fill-rows .ensures .small;
       never-longer = rows-bound s o checked laws (c .args .rows .now) after j given;
       attained = rows-attained s o checked laws (c .args .rows .now) after j given;
       late-exactly = verdict-exact s o checked laws (c .args .rows .now) after j given;
