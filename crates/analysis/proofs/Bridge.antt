@@ -27,7 +27,7 @@ use Rattle.analysis.specs.Reaches.{lead-of, Lane-to}
 use Rattle.analysis.specs.declared.lanes.Lane.{Lane}
 use Rattle.analysis.proofs.Counting.{count-same, count-both}
 use Rattle.theory.proofs.Sums.{sum-cong}
-use Rattle.analysis.proofs.Sums.{max-same}
+use Rattle.theory.proofs.OneMore.{max-same}
 use Rattle.analysis.proofs.Windows.{limited-work}
 
 -- a reach as a lane has it tells the same, for the releases and offsets of an analysis

@@ -1,4 +1,3 @@
-pub mod Sums
 pub mod Growth
 pub mod Windows
 pub mod Bests

@@ -19,7 +19,7 @@ use Rattle.analysis.specs.declared.window.Own.{Own}
 use Rattle.table.specs.declared.kinds.Mode.{Mode}
 use Rattle.table.specs.declared.kinds.Mode.the-variants.{NonPreemptive, Preemptive}
 use Rattle.theory.proofs.Sums.{sum-mono, sum-cong}
-use Rattle.analysis.proofs.Sums.{max-same}
+use Rattle.theory.proofs.OneMore.{max-same}
 use Rattle.analysis.proofs.Growth.{div-mono, work-mono}
 
 -- the first number that covers its own work is the least solution

@@ -40,3 +40,4 @@ pub mod Late
 pub mod Attain
 pub mod Guaranteed
 pub mod QueueLimit
+pub mod OneMore

@@ -41,8 +41,10 @@ reach-back s j (w ∷ ws) m b far low long = go m long (cases-bool (waits w)) (c
   where
     T : ℕ
     T = task-at s j .period
+
     IH : Type 0
     IH = (k c : ℕ) → ((v : Work) → In v ws → v .task ≡ j → v .release + task-at s j .period ≤ c) → suc k ≤ how-many (of-task j) (those waits ws) → Waited s j ws (suc k) c
+
     go : (k : ℕ) → suc k ≤ how-many (of-task j) (cond (waits w) (w ∷ those waits ws) (those waits ws)) → (waits w ≡ true) ⊎ (waits w ≡ false) → (of-task j w ≡ true) ⊎ (of-task j w ≡ false) → IH → Waited s j (w ∷ ws) (suc k) b
     go k l (inr e) q ih = further s j w ws (suc k) b (ih k b (λ v m f. low v (inr m) f) (subst (λ xs. suc k ≤ how-many (of-task j) xs) (cond-false (waits w) (w ∷ those waits ws) (those waits ws) e) l))
     go k l (inl e) (inr q) ih =
@@ -69,11 +71,14 @@ module _ (s : Task-set) (st : State) (j k : ℕ) (full : refusal s st (release j
     where
       rest : Option Refusal
       rest = cond (leb longest-line (how-many (of-task j) (waiting st))) (Some (QueueFull j)) None
+
       late : Option Refusal
       late = cond soon (Some (TooSoon j)) rest
+
       test : (w : Work) → w .task ≡ j → (of-task j w ≡ false) ⊎ (ltb (st .time) (w .release + task-at s j .period) ≡ false) → w .release + task-at s j .period ≤ st .time
       test w f (inl a) = absurd (both-ways (of-task j w) a (eq-eqb (w .task) j f))
       test w f (inr b) = ltb-false (st .time) (w .release + task-at s j .period) b
+
       go : (leb (task-count s) j ≡ true) ⊎ (leb (task-count s) j ≡ false) → (soon ≡ true) ⊎ (soon ≡ false) → (leb longest-line (how-many (of-task j) (waiting st)) ≡ true) ⊎ (leb longest-line (how-many (of-task j) (waiting st)) ≡ false) → ((w : Work) → In w (st .jobs) → w .task ≡ j → w .release + task-at s j .period ≤ st .time) × (longest-line ≤ how-many (of-task j) (waiting st))
       go (inl e) q r = let x = sym full ∙ cond-true (leb (task-count s) j) (Some (NoTaskToRun j)) late e in let z : _≡_ {A = ℕ} 0 1 = cc in absurd (omega arith)
       go (inr e) (inl q) r = let x = sym full ∙ cond-false (leb (task-count s) j) (Some (NoTaskToRun j)) late e ∙ cond-true soon (Some (TooSoon j)) rest q in let z : _≡_ {A = ℕ} 0 1 = cc in absurd (omega arith)
@@ -103,10 +108,12 @@ told-refusal s o st c e same = go (refusal s st c) refl same
         two : (ends s done w ≡ true) ⊎ (ends s done w ≡ false) → ⊥
         two (inl b) = let g = f ∙ cond-true (ends s done w) (Finished (w .task) (w .release) (later - w .release)) (Ran (w .task) (w .release)) b in let z : _≡_ {A = ℕ} 0 1 = cc in omega arith
         two (inr b) = let g = f ∙ cond-false (ends s done w) (Finished (w .task) (w .release) (later - w .release)) (Ran (w .task) (w .release)) b in let z : _≡_ {A = ℕ} 0 1 = cc in omega arith
+
     not-replied : (d : Call) → Refused e ≡ reply s o st d → ⊥
     not-replied (release j) f = let z : _≡_ {A = ℕ} 0 1 = cc in omega arith
     not-replied (tick done) f = not-told (st .time + 1) done (job-to-run (s .mode) o (waiting st)) f
     not-replied (look j) f = let z : _≡_ {A = ℕ} 0 1 = cc in omega arith
+
     go : (r : Option Refusal) → refusal s st c ≡ r → Refused e ≡ answer-by s o st c r → refusal s st c ≡ Some e
     go None is f = absurd (not-replied c f)
     go (Some x) is f = is ∙ same-some

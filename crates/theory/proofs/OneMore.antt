@@ -1,14 +1,9 @@
--- Sums and maxima below a number: one more, and comparison term by term.
-use mathlib.Core.Path.{_≡_, refl, sym, ap, ap₂, _∙_}
-use Prim.Native.Nat.{ℕ, zero, suc, _+_, _≤_, _<_, max}
-use mathlib.Core.Bool.{Bool, true, false, cond}
-use mathlib.Core.Logic.{_⊎_, inl, inr}
-use lib.Dec.{eqb, ltb}
-use Rattle.std.proofs.shelf.Ways.{tells}
-use native.Mathlib.Nat.{not-suc-le-zero}
+-- Sums and maxima below a number, one more at a time, as a loop makes them.
+use mathlib.Core.Path.{_≡_, refl, ap₂}
+use Prim.Native.Nat.{ℕ, zero, suc, _+_, _<_, max}
 use native.Mathlib.Numerals.{add-one}
 use native.Mathlib.Omega.{arith}
 use Rattle.theory.specs.Sums.{sum-below, max-below}
 
 pub sum-more : (f : ℕ → ℕ) (n : ℕ) → sum-below (n + 1) f ≡ sum-below n f + f n
 unfolding sum-below
