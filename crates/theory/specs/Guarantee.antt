@@ -25,11 +25,11 @@ Admitted-by s o L = (i r a : ℕ) → i < task-count s → Worst s o L i r a →
 abbrev pub Late-by : Task-set → Order → ℕ → Type 0
 Late-by s o L = (i : ℕ) × (r : ℕ) × (a : ℕ) × (i < task-count s) × Worst s o L i r a × (task-at s i .deadline < r)
 
--- (a) after every list of calls, each unfinished job is younger than the worst response of its task
+-- never longer: after every list of calls, each unfinished job is younger than the worst response of its task
 abbrev pub Never-longer : Task-set → Order → ℕ → Type 0
 Never-longer s o L = (calls : List Call) (w : Work) (r a : ℕ) → In w (after s o calls .jobs) → w .finished ≡ false → Worst s o L (w .task) r a → after s o calls .time < w .release + r
 
--- (b) in an admitted task set no call of a task's worst course is refused, and its last answer tells the job that finishes with the worst response
+-- attained: in an admitted task set no call of a task's worst course is refused, and its last answer tells the job that finishes with the worst response
 abbrev pub Attained : Task-set → Order → ℕ → Type 0
 Attained s o L = Admitted-by s o L → (i r a : ℕ) → i < task-count s → Worst s o L i r a
     → ((e : Refusal) → In (Refused e) (answers s o start (worst-course s o i a r)) → ⊥)
@@ -39,7 +39,7 @@ Attained s o L = Admitted-by s o L → (i r a : ℕ) → i < task-count s → Wo
 abbrev pub Misses : Task-set → Order → Type 0
 Misses s o = (calls : List Call) × (w : Work) × In w (after s o calls .jobs) × (w .finished ≡ false) × (after s o calls .time ≡ w .release + task-at s (w .task) .deadline)
 
--- (c) late exactly when some list of calls leaves a job unfinished at its deadline
+-- late exactly when some list of calls leaves a job unfinished at its deadline
 abbrev pub Late-exactly : Task-set → Order → ℕ → Type 0
 Late-exactly s o L = (Late-by s o L → Misses s o) × (Misses s o → Late-by s o L)
 
