@@ -17,3 +17,8 @@ pub mod Younger
 pub mod Bound
 pub mod WorstExists
 pub mod MissesLate
+pub mod Divisions
+pub mod FixedOrder
+pub mod Descent
+pub mod LevelWork
+pub mod FixedRecurrence

@@ -7,3 +7,4 @@ pub mod Lists
 pub mod Machine
 pub mod Course
 pub mod Guarantee
+pub mod FixedPriority
