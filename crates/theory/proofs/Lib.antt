@@ -22,3 +22,4 @@ pub mod FixedOrder
 pub mod Descent
 pub mod LevelWork
 pub mod FixedRecurrence
+pub mod FixedPublished
