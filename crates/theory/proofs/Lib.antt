@@ -13,6 +13,7 @@ pub mod ByTask
 pub mod Pigeonhole
 pub mod Counting
 pub mod Existence
+pub mod Asked
 pub mod Younger
 pub mod Bound
 pub mod WorstExists
