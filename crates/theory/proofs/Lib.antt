@@ -24,3 +24,6 @@ pub mod Descent
 pub mod LevelWork
 pub mod FixedRecurrence
 pub mod FixedPublished
+pub mod CriterionAnywhere
+pub mod DeadlineOrder
+pub mod CriterionEnough

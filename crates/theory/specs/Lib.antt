@@ -8,3 +8,4 @@ pub mod Machine
 pub mod Course
 pub mod Guarantee
 pub mod FixedPriority
+pub mod DemandCriterion
