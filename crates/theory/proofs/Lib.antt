@@ -27,3 +27,5 @@ pub mod FixedPublished
 pub mod CriterionAnywhere
 pub mod DeadlineOrder
 pub mod CriterionEnough
+pub mod CriterionFolds
+pub mod LastJob
