@@ -29,3 +29,7 @@ pub mod DeadlineOrder
 pub mod CriterionEnough
 pub mod CriterionFolds
 pub mod LastJob
+pub mod DueJobs
+pub mod AdmittedResponse
+pub mod Packing
+pub mod PackingNonPreemptive
