@@ -33,3 +33,5 @@ pub mod DueJobs
 pub mod AdmittedResponse
 pub mod Packing
 pub mod PackingNonPreemptive
+pub mod CriterionNeeded
+pub mod DeadlinePublished
