@@ -1,17 +1,17 @@
 -- The criterion at the deadline points gives the same at every t that has a deadline point at or before it.
-use Prim.Native.Nat.{ℕ, suc, _+_, _-_, _*_, _/_, _≤_, _<_}
-use mathlib.Core.Bool.{Bool, true, false, cond}
-use mathlib.Core.Path.{_≡_, refl, sym, ap, subst, _∙_}
+use Prim.Native.Nat.{ℕ, _+_, _-_, _*_, _/_, _≤_, _<_}
+use mathlib.Core.Bool.{true, false, cond}
+use mathlib.Core.Path.{_≡_, sym, subst, _∙_}
 use mathlib.Core.Logic.{_⊎_, inl, inr}
 use native.Mathlib.Omega.{arith}
-use native.Mathlib.Nat.{add-mul, mul-le-mul-right, le-div-iff-mul-le, div-mul-le-self}
+use native.Mathlib.Nat.{mul-le-mul-right, le-div-iff-mul-le, div-mul-le-self}
 use lib.Dec.{leb, ltb}
 use Rattle.std.proofs.shelf.Tests.{cases-bool, cond-true, cond-false, leb-true, le-leb, ltb-true, lt-ltb}
 use Rattle.table.specs.Rules.{Task-set, Checked, task-at, task-count}
 use Rattle.table.specs.declared.kinds.Mode.{Mode}
 use Rattle.table.specs.declared.kinds.Mode.the-variants.{NonPreemptive, Preemptive}
 use Rattle.table.proofs.Ranges.{task-ranges}
-use Rattle.theory.specs.Sums.{sum-below, max-below}
+use Rattle.theory.specs.Sums.{max-below}
 use Rattle.theory.specs.DemandCriterion.{demand, demand-blocking, Fits-by, Criterion}
 use Rattle.theory.proofs.Sums.{sum-mono, max-at, max-taken}
 use Rattle.theory.proofs.Works.{cond-le}

@@ -1,14 +1,14 @@
 -- The criterion is enough: under deadline order every response is within its deadline.
-use Prim.Native.Nat.{ℕ, suc, _+_, _-_, _*_, _/_, _≤_, _<_, max}
-use mathlib.Core.Path.{_≡_, refl, sym, ap, subst, _∙_}
+use Prim.Native.Nat.{ℕ, suc, _+_, _-_, _/_, _≤_, _<_}
+use mathlib.Core.Path.{_≡_, refl, ap}
 use native.Mathlib.Omega.{arith}
-use native.Mathlib.Nat.{add-mul, zero-div}
+use native.Mathlib.Nat.{add-mul}
 use Rattle.table.specs.Rules.{Task-set, Checked, task-at, task-count}
 use Rattle.table.specs.declared.kinds.Mode.{Mode}
 use Rattle.table.specs.declared.kinds.Mode.the-variants.{NonPreemptive, Preemptive}
 use Rattle.table.proofs.Ranges.{task-ranges}
 use Rattle.policy.specs.Orders.{deadline-order}
-use Rattle.theory.specs.Response.{until-finish, until-start, work-ahead, Response-in}
+use Rattle.theory.specs.Response.{until-finish, until-start, Response-in}
 use Rattle.theory.specs.Guarantee.{Admitted-by}
 use Rattle.theory.specs.DemandCriterion.{demand, demand-blocking, Criterion}
 use Rattle.theory.proofs.Solutions.{solution}
@@ -18,9 +18,6 @@ use Rattle.theory.proofs.DeadlineOrder.{deadline-lawful, work-due, blocking-du
 use Rattle.theory.proofs.CriterionAnywhere.{fits-anywhere}
 
 module _ (s : Task-set) (checked : Checked s) (criterion : Criterion s) (i a : ℕ) (here : i < task-count s) where
-  t : ℕ
-  t = a + task-at s i .deadline
-
   fits : demand s (a + task-at s i .deadline) + demand-blocking (s .mode) s (a + task-at s i .deadline) ≤ a + task-at s i .deadline
   fits = fits-anywhere s checked criterion i (a + task-at s i .deadline) here (omega arith)
 

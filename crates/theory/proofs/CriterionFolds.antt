@@ -1,17 +1,16 @@
 -- The demand by t, with what may block it, is no more than a busy period and the demand by t less that busy period.
 use Prim.Native.Nat.{ℕ, suc, _+_, _-_, _*_, _/_, _≤_, _<_}
-use mathlib.Core.Bool.{Bool, true, false, cond}
-use mathlib.Core.Path.{_≡_, refl, sym, ap, _∙_}
+use mathlib.Core.Bool.{true, false, cond}
+use mathlib.Core.Path.{_≡_, refl, ap, _∙_}
 use mathlib.Core.Logic.{_⊎_, inl, inr}
 use native.Mathlib.Omega.{arith}
 use native.Mathlib.Nat.{add-mul, mul-le-mul-right}
 use lib.Dec.{eqb, leb, ltb}
-use Rattle.std.proofs.shelf.Tests.{cases-eq, cases-lt, cases-bool, cond-true, cond-false, eq-eqb, ne-eqb, le-leb, lt-leb, leb-true, leb-false, ltb-true}
+use Rattle.std.proofs.shelf.Tests.{cases-eq, cases-lt, cases-bool, cond-true, cond-false, eq-eqb, ne-eqb, le-leb, lt-leb, ltb-true}
 use Rattle.table.specs.Rules.{Task-set, Checked, task-at, task-count}
 use Rattle.table.specs.declared.kinds.Mode.{Mode}
 use Rattle.table.specs.declared.kinds.Mode.the-variants.{NonPreemptive, Preemptive}
 use Rattle.table.proofs.Ranges.{task-ranges}
-use Rattle.theory.specs.Sums.{sum-below, max-below}
 use Rattle.theory.specs.BusyPeriod.{ceil-div, Busy-period}
 use Rattle.theory.specs.DemandCriterion.{demand, demand-blocking}
 use Rattle.theory.proofs.Sums.{sum-mono, sum-add, sum-single, max-taken}
@@ -49,9 +48,6 @@ module _ (s : Task-set) (checked : Checked s) (L : ℕ) (busy : Busy-period s L)
   unfolding share
   folds j hj = go (cases-lt t (task-at s j .deadline)) (cases-lt (t - L) (task-at s j .deadline))
     where
-      T : ℕ
-      T = task-at s j .period
-
       low : 1 ≤ task-at s j .period
       low = task-ranges s checked j hj .period-low
 

@@ -1,20 +1,19 @@
 -- The criterion is needed: whatever lawful order admits the task set, the work due by t fits by t.
 use Prim.Native.Nat.{ℕ, zero, suc, _+_, _-_, _*_, _/_, _≤_, _<_}
 use mathlib.Core.Bool.{true, false, cond}
-use mathlib.Core.List.{List, [], _∷_}
-use mathlib.Core.Path.{_≡_, refl, sym, ap, subst, _∙_}
+use mathlib.Core.List.{List, _∷_}
+use mathlib.Core.Path.{_≡_, refl, sym, ap, subst}
 use mathlib.Core.Logic.{_⊎_, inl, inr}
 use native.Mathlib.Omega.{arith}
 use native.Mathlib.Nat.{add-mul}
-use lib.Dec.{eqb, leb}
-use Rattle.std.proofs.shelf.Tests.{cases-lt, cases-eq, cases-bool, both-ways, cond-true, le-leb, leb-true}
+use lib.Dec.{leb}
+use Rattle.std.proofs.shelf.Tests.{cases-lt, cases-eq, cases-bool, both-ways, cond-true, le-leb}
 use Rattle.table.specs.Rules.{Task-set, Checked, task-at, task-count}
 use Rattle.table.specs.declared.kinds.Mode.{Mode}
 use Rattle.table.specs.declared.kinds.Mode.the-variants.{NonPreemptive, Preemptive}
 use Rattle.table.proofs.Ranges.{task-ranges}
 use Rattle.policy.specs.Order.{Order}
 use Rattle.policy.specs.Laws.{Lawful}
-use Rattle.theory.specs.Sums.{sum-below}
 use Rattle.theory.specs.BusyPeriod.{Busy-period}
 use Rattle.theory.specs.Lists.{In}
 use Rattle.theory.specs.Machine.{Work}

@@ -1,16 +1,15 @@
 -- Under deadline order: the order is lawful; what is ahead of a job is due no later, and what may block it is due later.
-use Prim.Native.Nat.{ℕ, suc, _+_, _-_, _*_, _/_, _≤_, _<_}
+use Prim.Native.Nat.{ℕ, _+_, _-_, _*_, _/_, _≤_, _<_}
 use mathlib.Core.Bool.{Bool, true, false, cond, _&&_}
-use mathlib.Core.Path.{_≡_, refl, sym, ap, _∙_}
+use mathlib.Core.Path.{_≡_, refl, ap, _∙_}
 use mathlib.Core.Logic.{_⊎_, inl, inr}
 use native.Mathlib.Omega.{arith}
 use native.Mathlib.Nat.{le-div-iff-mul-le, mul-le-mul-right}
 use lib.Dec.{eqb, leb, ltb}
-use lib.IntN.{ℤ, pos, negsuc, _+ℤ_}
-use lib.Signed.{leZ, ltZ}
+use lib.IntN.{pos, negsuc, _+ℤ_}
 use Rattle.std.proofs.shelf.Signed.{ints}
 use Rattle.std.proofs.shelf.Ways.{tells}
-use Rattle.std.proofs.shelf.Tests.{cases-eq, cases-bool, cond-true, cond-false, and-parts, eq-eqb, ne-eqb, le-leb, lt-ltb, leb-true, leb-false}
+use Rattle.std.proofs.shelf.Tests.{cases-bool, cond-true, cond-false, and-parts, le-leb, lt-ltb}
 use Rattle.table.specs.Rules.{Task-set, Checked, task-at, task-count}
 use Rattle.table.specs.declared.kinds.Mode.the-variants.{NonPreemptive}
 use Rattle.table.proofs.Ranges.{task-ranges}
@@ -18,7 +17,6 @@ use Rattle.policy.specs.Order.{job}
 use Rattle.policy.specs.Laws.{Lawful}
 use Rattle.policy.specs.Orders.{deadline-order, key-ahead}
 use Rattle.policy.proofs.Keyed.{keyed-total, keyed-transitive, keyed-earlier, keyed-range, keyed-rule}
-use Rattle.theory.specs.Sums.{sum-below, max-below}
 use Rattle.theory.specs.Response.{jobs-ahead, work-ahead, blocking}
 use Rattle.theory.specs.DemandCriterion.{demand, demand-blocking}
 use Rattle.theory.proofs.Sums.{sum-mono, sum-split, count-at-most}
@@ -31,9 +29,6 @@ key-late : (i j a m n : ℕ) → key-ahead i (pos a +ℤ pos m) j (negsuc 0 +ℤ
 key-late i j a m n h = grind (arith, ints, tells)
 
 module _ (s : Task-set) (checked : Checked s) where
-  due : ℕ → ℕ
-  due i = task-at s i .deadline
-
   pub deadline-lawful : Lawful s (deadline-order s)
   deadline-lawful = record {
     total = keyed-total s (λ i. task-at s i .deadline);

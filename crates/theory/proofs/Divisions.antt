@@ -1,10 +1,8 @@
 -- Quotients rounded down and up.
 use Prim.Native.Nat.{ℕ, zero, suc, _+_, _-_, _*_, _/_, _≤_, _<_}
-use mathlib.Core.Path.{_≡_, refl, sym, ap, _∙_}
-use mathlib.Core.Logic.{_⊎_, inl, inr}
+use mathlib.Core.Path.{_≡_, ap}
 use native.Mathlib.Omega.{arith}
-use native.Mathlib.Nat.{suc-mul, add-mul, mul-le-mul-right, le-div-iff-mul-le, div-mul-le-self, lt-div-mul-add, add-div-right, div-lt-iff-lt-mul}
-use Rattle.std.proofs.shelf.Tests.{cases-lt}
+use native.Mathlib.Nat.{suc-mul, add-mul, le-div-iff-mul-le, lt-div-mul-add, add-div-right, div-lt-iff-lt-mul}
 use Rattle.theory.specs.BusyPeriod.{ceil-div}
 
 -- k periods fit strictly below t

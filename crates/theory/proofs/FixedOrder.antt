@@ -1,25 +1,23 @@
 -- Under fixed priorities: the order is lawful, and what is ahead and what blocks are read off the ranks.
-use Prim.Native.Nat.{ℕ, suc, _+_, _-_, _*_, _/_, _≤_, _<_, max}
-use mathlib.Core.Bool.{Bool, true, false, not, cond, _&&_}
+use Prim.Native.Nat.{ℕ, _-_, _*_, _≤_, _<_}
+use mathlib.Core.Bool.{Bool, true, false, cond, _&&_}
 use mathlib.Core.Path.{_≡_, refl, sym, ap, _∙_}
 use mathlib.Core.Logic.{_⊎_, inl, inr}
 use native.Mathlib.Omega.{arith}
 use native.Mathlib.Nat.{le-antisymm, zero-mul}
 use lib.Dec.{eqb, ltb}
 use lib.IntN.{ℤ, pos, negsuc}
-use lib.Signed.{ltZ, _<ℤ_}
+use lib.Signed.{ltZ}
 use Rattle.std.proofs.shelf.Signed.{ints}
 use Rattle.std.proofs.shelf.Ways.{tells}
 use Rattle.std.proofs.shelf.Tests.{cases-eq, cases-bool, both-ways, cond-true, cond-false, and-parts, and-from, eq-eqb, ne-eqb, le-ltb, lt-ltb, ltb-true}
 use Rattle.table.specs.Rules.{Task-set, Checked, task-at, task-count}
 use Rattle.table.proofs.Ranges.{task-ranges, ranks-apart}
-use Rattle.policy.specs.declared.job.Job.{Job}
 use Rattle.policy.specs.declared.job.Reach.the-variants.{Always, Never}
 use Rattle.policy.specs.Order.{job, reaches}
 use Rattle.policy.specs.Laws.{Total, Transitive, Earlier-first, Small-reach, Reach-range, Reach-rule, Lawful}
 use Rattle.policy.specs.Orders.{fixed-order}
 use Rattle.policy.proofs.Different.{differ}
-use Rattle.theory.specs.Sums.{sum-below, max-below, count-below}
 use Rattle.theory.specs.BusyPeriod.{ceil-div}
 use Rattle.theory.specs.Response.{jobs-ahead, work-ahead, blocking}
 use Rattle.theory.specs.FixedPriority.{sum-above, blocking-below}

@@ -1,9 +1,9 @@
 -- The published recurrences of fixed priorities, mode by mode: they are what the analysis solves at the offset a, with q = a / T.
 use Prim.Native.Nat.{ℕ, suc, _+_, _-_, _*_, _/_, _≤_, _<_, max}
-use mathlib.Core.Path.{_≡_, refl, sym, ap, subst, _∙_}
+use mathlib.Core.Path.{_≡_, refl, sym, ap, subst}
 use mathlib.Core.Logic.{_⊎_, inl, inr}
 use native.Mathlib.Omega.{arith}
-use native.Mathlib.Nat.{add-mul, zero-mul, mul-le-mul-right, mul-div-cancel}
+use native.Mathlib.Nat.{add-mul, mul-le-mul-right, mul-div-cancel}
 use Rattle.std.proofs.shelf.Tests.{cases-eq}
 use Rattle.table.specs.Rules.{Task-set, Checked, task-at, task-count}
 use Rattle.table.specs.declared.kinds.Mode.{Mode}
@@ -13,20 +13,14 @@ use Rattle.policy.specs.Orders.{fixed-order}
 use Rattle.theory.specs.LeastSolution.{Least-solution}
 use Rattle.theory.specs.BusyPeriod.{ceil-div, Busy-period}
 use Rattle.theory.specs.Response.{until-finish, until-start, Response-in}
-use Rattle.theory.specs.FixedPriority.{blocking-below, level-load, recurrence, recurrence-from, response-of}
+use Rattle.theory.specs.FixedPriority.{level-load, recurrence, recurrence-from, response-of}
 use Rattle.theory.proofs.Solutions.{Monotone, beyond, same-solution, below-solution}
 use Rattle.theory.proofs.Existence.{finish-exists, start-exists}
 use Rattle.theory.proofs.Divisions.{ceil-least}
 use Rattle.theory.proofs.FixedOrder.{fixed-lawful, work-above, same-blocking}
-use Rattle.theory.proofs.LevelWork.{above, above-mono, above-add, above-suc, extra, load-parts, load-mono, load-first}
+use Rattle.theory.proofs.LevelWork.{above, above-mono, above-add, above-suc, load-mono, load-first}
 
 module _ (s : Task-set) (checked : Checked s) (i : ℕ) (here : i < task-count s) where
-  T : ℕ
-  T = task-at s i .period
-
-  C : ℕ
-  C = task-at s i .cost
-
   period-low : 1 ≤ task-at s i .period
   period-low = task-ranges s checked i here .period-low
 

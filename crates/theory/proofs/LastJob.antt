@@ -1,13 +1,13 @@
 -- Among the jobs of a list released from x on, the one that all the others lead.
 use Prim.Native.Nat.{ℕ, _≤_, _<_}
-use mathlib.Core.Bool.{Bool, true, false, not, _&&_, _||_}
+use mathlib.Core.Bool.{true, false, not, _&&_}
 use mathlib.Core.List.{List, [], _∷_}
 use mathlib.Core.Path.{_≡_, refl, sym, ap, subst, _∙_}
 use mathlib.Core.Logic.{_⊎_, inl, inr}
 use native.Mathlib.Omega.{arith}
 use lib.Dec.{eqb}
 use lib.IntN.{pos}
-use Rattle.std.proofs.shelf.Tests.{cases-bool, cases-lt, both-ways, or-cases, or-from, and-parts, and-left, and-right, eqb-true, ne-eqb, cases-eq}
+use Rattle.std.proofs.shelf.Tests.{cases-bool, cases-lt, or-cases, or-from, and-parts, and-left, and-right, eqb-true, ne-eqb, cases-eq}
 use Rattle.table.specs.Rules.{Task-set, task-count}
 use Rattle.policy.specs.Order.{Order, job}
 use Rattle.policy.specs.Laws.{Lawful}

@@ -1,33 +1,31 @@
 -- In an admitted task set the jobs of a spaced list that are due by e fit before e, whatever lawful order: from the job that all others lead, window by window.
-use Prim.Native.Nat.{ℕ, zero, suc, _+_, _-_, _*_, _/_, _≤_, _<_}
-use mathlib.Core.Bool.{Bool, true, false, not, cond, _&&_}
+use Prim.Native.Nat.{ℕ, zero, suc, _+_, _-_, _≤_, _<_}
+use mathlib.Core.Bool.{Bool, true, false, cond, _&&_}
 use mathlib.Core.List.{List}
-use mathlib.Core.Path.{_≡_, refl, sym, ap, subst, _∙_}
+use mathlib.Core.Path.{_≡_, refl}
 use mathlib.Core.Logic.{_⊎_, inl, inr}
 use native.Mathlib.Omega.{arith}
-use lib.Dec.{eqb, leb, ltb}
-use Rattle.std.proofs.shelf.Tests.{cases-lt, cases-bool, cond-true, cond-false, and-from, and-left, and-right, leb-true, le-leb, lt-leb, lt-ltb, ne-eqb, not-from-false}
+use lib.Dec.{leb, ltb}
+use Rattle.std.proofs.shelf.Tests.{cases-lt, cond-true, cond-false, and-from, leb-true, le-leb, lt-leb, lt-ltb}
 use Rattle.table.specs.Rules.{Task-set, Checked, task-at, task-count}
-use Rattle.table.specs.declared.kinds.Mode.the-variants.{NonPreemptive, Preemptive}
+use Rattle.table.specs.declared.kinds.Mode.the-variants.{Preemptive}
 use Rattle.table.proofs.Ranges.{task-ranges}
 use Rattle.policy.specs.Order.{Order}
 use Rattle.policy.specs.Laws.{Lawful}
 use Rattle.theory.specs.LeastSolution.{Least-solution}
 use Rattle.theory.specs.BusyPeriod.{Busy-period}
-use Rattle.theory.specs.Response.{until-finish, until-start}
+use Rattle.theory.specs.Response.{until-finish}
 use Rattle.theory.specs.Lists.{In}
-use Rattle.theory.specs.Machine.{Work, same-work}
+use Rattle.theory.specs.Machine.{Work}
 use Rattle.theory.specs.Guarantee.{Admitted-by}
 use Rattle.theory.proofs.Orders.{leads}
-use Rattle.theory.proofs.Choice.{front}
-use Rattle.theory.proofs.Works.{Test, tests, asked, total, total-mono, total-add, total-zero, same-from}
-use Rattle.theory.proofs.ByTask.{total-one}
-use Rattle.theory.proofs.MachineFacts.{Spaced, apart-from-spaced}
-use Rattle.theory.proofs.Window.{Source, key, released-within, ahead-within}
-use Rattle.theory.proofs.Asked.{asked-within, asked-before, allowance-fits}
-use Rattle.theory.proofs.LastJob.{Last-from, last-from, not-led}
+use Rattle.theory.proofs.Works.{Test, tests, asked, total-mono, total-add, total-zero}
+use Rattle.theory.proofs.MachineFacts.{Spaced}
+use Rattle.theory.proofs.Window.{released-within}
+use Rattle.theory.proofs.Asked.{asked-within}
+use Rattle.theory.proofs.LastJob.{Last-from, last-from}
 use Rattle.theory.proofs.DueJobs.{left}
-use Rattle.theory.proofs.AdmittedResponse.{admitted-finish, admitted-start}
+use Rattle.theory.proofs.AdmittedResponse.{admitted-finish}
 
 -- what passes one test passes one of two others
 cond-either : (a b c : Bool) (n : ℕ) → (a ≡ true → (b ≡ true) ⊎ (c ≡ true)) → cond a n 0 ≤ cond b n 0 + cond c n 0

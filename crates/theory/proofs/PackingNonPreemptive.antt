@@ -1,33 +1,32 @@
 -- The same without preemption, with what holds the processor when a window opens.
-use Prim.Native.Nat.{ℕ, zero, suc, _+_, _-_, _*_, _/_, _≤_, _<_}
-use mathlib.Core.Bool.{Bool, true, false, not, cond, _&&_, _||_}
+use Prim.Native.Nat.{ℕ, zero, suc, _+_, _-_, _≤_, _<_}
+use mathlib.Core.Bool.{true, false, not, cond, _&&_, _||_}
 use mathlib.Core.List.{List}
-use mathlib.Core.Path.{_≡_, refl, sym, ap, subst, _∙_}
+use mathlib.Core.Path.{_≡_, refl, _∙_}
 use mathlib.Core.Logic.{_⊎_, inl, inr}
 use native.Mathlib.Omega.{arith}
-use lib.Dec.{eqb, leb, ltb}
+use lib.Dec.{eqb, leb}
 use Rattle.std.proofs.shelf.Tests.{cases-lt, cases-bool, cond-true, cond-false, and-from, and-right, leb-true, le-leb, ne-eqb, not-from-false, or-cases, or-left, or-right}
 use Rattle.table.specs.Rules.{Task-set, Checked, task-at, task-count}
-use Rattle.table.specs.declared.kinds.Mode.the-variants.{NonPreemptive, Preemptive}
+use Rattle.table.specs.declared.kinds.Mode.the-variants.{NonPreemptive}
 use Rattle.table.proofs.Ranges.{task-ranges}
 use Rattle.policy.specs.Order.{Order}
 use Rattle.policy.specs.Laws.{Lawful}
 use Rattle.theory.specs.LeastSolution.{Least-solution}
 use Rattle.theory.specs.BusyPeriod.{Busy-period}
-use Rattle.theory.specs.Response.{until-finish, until-start}
+use Rattle.theory.specs.Response.{until-start}
 use Rattle.theory.specs.Lists.{In}
 use Rattle.theory.specs.Machine.{Work, same-work}
 use Rattle.theory.specs.Guarantee.{Admitted-by}
 use Rattle.theory.proofs.Orders.{leads}
-use Rattle.theory.proofs.Choice.{front}
 use Rattle.theory.proofs.Works.{Test, tests, asked, same-from}
 use Rattle.theory.proofs.ByTask.{total-one}
 use Rattle.theory.proofs.MachineFacts.{Spaced, apart-from-spaced}
-use Rattle.theory.proofs.Window.{Source, key, released-within, ahead-within}
-use Rattle.theory.proofs.Asked.{asked-within, asked-before, allowance-fits}
+use Rattle.theory.proofs.Window.{Source, key, ahead-within}
+use Rattle.theory.proofs.Asked.{asked-before, allowance-fits}
 use Rattle.theory.proofs.LastJob.{Last-from, last-from, not-led}
 use Rattle.theory.proofs.DueJobs.{left}
-use Rattle.theory.proofs.AdmittedResponse.{admitted-finish, admitted-start}
+use Rattle.theory.proofs.AdmittedResponse.{admitted-start}
 use Rattle.theory.proofs.Packing.{nothing-left, before-due, splits}
 
 module _ (s : Task-set) (o : Order) (checked : Checked s) (law : Lawful s o) (L : ℕ) (busy : Busy-period s L) (admitted : Admitted-by s o L)

@@ -1,29 +1,25 @@
 -- From the window of an unfinished job to its age: it is younger than the response at its offset in the window.
 use Prim.Native.Nat.{ℕ, suc, _+_, _-_, _*_, _/_, _≤_, _<_}
 use mathlib.Core.Bool.{true, false, cond}
-use mathlib.Core.List.{List}
-use mathlib.Core.Path.{_≡_, refl, sym, ap, subst, _∙_}
+use mathlib.Core.Path.{_≡_, refl, ap, _∙_}
 use mathlib.Core.Logic.{_⊎_, inl, inr}
 use native.Mathlib.Omega.{arith}
-use native.Mathlib.Nat.{zero-mul, mul-le-mul-right}
-use lib.Dec.{eqb}
-use lib.IntN.{pos, negsuc}
-use Rattle.std.proofs.shelf.Tests.{cases-eq, cases-lt, both-ways, cond-true, cond-false, eq-eqb, ne-eqb}
+use native.Mathlib.Nat.{zero-mul}
+use Rattle.std.proofs.shelf.Tests.{cases-lt, both-ways, cond-true, cond-false}
 use Rattle.table.specs.Rules.{Task-set, Checked, task-at, task-count}
 use Rattle.table.specs.declared.kinds.Mode.the-variants.{NonPreemptive, Preemptive}
 use Rattle.policy.specs.Order.{Order, job}
 use Rattle.policy.specs.Laws.{Lawful}
-use Rattle.theory.specs.Sums.{sum-below}
 use Rattle.theory.specs.LeastSolution.{Least-solution}
 use Rattle.theory.specs.BusyPeriod.{ceil-div, Busy-period}
-use Rattle.theory.specs.Response.{jobs-ahead, work-ahead, blocking, until-finish, until-start}
+use Rattle.theory.specs.Response.{work-ahead, blocking, until-finish, until-start}
 use Rattle.theory.specs.Lists.{In}
 use Rattle.theory.specs.Machine.{Work, State, same-work}
-use Rattle.theory.proofs.Sums.{sum-mono, sum-split, max-at}
+use Rattle.theory.proofs.Sums.{sum-split}
 use Rattle.theory.proofs.Solutions.{beyond}
-use Rattle.theory.proofs.Orders.{leads, leads-self, leads-own, leads-other, leads-never, ahead-back, behind-back}
+use Rattle.theory.proofs.Orders.{leads-self}
 use Rattle.theory.proofs.Works.{Test, tests, asked, served, number, same-one, same-from}
-use Rattle.theory.proofs.ByTask.{of-one, asked-by-task, total-one}
+use Rattle.theory.proofs.ByTask.{of-one, total-one}
 use Rattle.theory.proofs.MachineFacts.{Facts, facts-apart}
 use Rattle.theory.proofs.Window.{Window, Source, Not-finished, key, released-within, ahead-within}
 use Rattle.theory.proofs.Counting.{count-any, count-none}

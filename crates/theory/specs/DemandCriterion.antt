@@ -2,7 +2,7 @@
 use Prim.Native.Nat.{ℕ, _+_, _-_, _*_, _/_, _≤_, _<_}
 use mathlib.Core.Bool.{cond}
 use lib.Dec.{leb, ltb}
-use Rattle.table.specs.Rules.{Task-set, Checked, task-at, task-count}
+use Rattle.table.specs.Rules.{Task-set, task-at, task-count}
 use Rattle.table.specs.declared.kinds.Mode.{Mode}
 use Rattle.table.specs.declared.kinds.Mode.the-variants.{NonPreemptive, Preemptive}
 use Rattle.policy.specs.Order.{Order}

@@ -1,6 +1,6 @@
 -- Fixed priorities by the published recurrences. The tasks above i are those of lower rank, the tasks below i those of higher rank.
 use Prim.Native.Nat.{ℕ, _+_, _-_, _*_, _/_, _≤_, _<_}
-use mathlib.Core.Bool.{Bool, cond}
+use mathlib.Core.Bool.{cond}
 use mathlib.Core.Path.{_≡_}
 use lib.Dec.{ltb}
 use Rattle.table.specs.Rules.{Task-set, task-at, task-count}
