@@ -35,3 +35,4 @@ pub mod Packing
 pub mod PackingNonPreemptive
 pub mod CriterionNeeded
 pub mod DeadlinePublished
+pub mod ClassicalExamples
