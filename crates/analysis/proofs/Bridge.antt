@@ -26,7 +26,8 @@ use Rattle.analysis.specs.Lanes.{lane-at, lane-jobs, lanes-work, lane-limit, l
 use Rattle.analysis.specs.Reaches.{lead-of, Lane-to}
 use Rattle.analysis.specs.declared.lanes.Lane.{Lane}
 use Rattle.analysis.proofs.Counting.{count-same, count-both}
-use Rattle.analysis.proofs.Sums.{sum-same, max-same}
+use Rattle.theory.proofs.Sums.{sum-cong}
+use Rattle.theory.proofs.OneMore.{max-same}
 use Rattle.analysis.proofs.Windows.{limited-work}
 
 -- a reach as a lane has it tells the same, for the releases and offsets of an analysis
@@ -128,7 +129,7 @@ module _ (s : Task-set) (o : Order) (checked : Checked s) (lawful : Lawful s o) 
   -- the work ahead, as the lanes have it
   pub work-lanes : (a t : ℕ) → a ≤ 60000 → t ≤ 60001 → work-ahead s o i a t ≡ lanes-work (map (limited a) ls) t
   work-lanes a t ha ht =
-      sum-same (task-count s) (λ j. cond (eqb j i) 0 (jobs-ahead s o i a j t * task-at s j .cost)) (λ j. lane-jobs (limited a (lane-at ls j)) t * lane-at ls j .cost) (λ j h. each j h (eqb j i) refl)
+      sum-cong (task-count s) (λ j. cond (eqb j i) 0 (jobs-ahead s o i a j t * task-at s j .cost)) (λ j. lane-jobs (limited a (lane-at ls j)) t * lane-at ls j .cost) (λ j h. each j h (eqb j i) refl)
       ∙ ap (λ n. sum-below n (λ j. lane-jobs (limited a (lane-at ls j)) t * lane-at ls j .cost)) (sym (made .long))
       ∙ sym (limited-work a ls t)
     where

@@ -9,7 +9,7 @@ use Rattle.std.proofs.shelf.Bits.{le-div}
 use Rattle.theory.specs.BusyPeriod.{ceil-div}
 use Rattle.analysis.specs.Lanes.{lane-at, lane-jobs, lanes-work, Sound, Sound-lane}
 use Rattle.analysis.specs.declared.lanes.Lane.{Lane}
-use Rattle.analysis.proofs.Sums.{sum-mono}
+use Rattle.theory.proofs.Sums.{sum-mono}
 
 pub div-mono : (d x y : ℕ) → 1 ≤ d → x ≤ y → x / d ≤ y / d
 div-mono d x y pos h = le-div (x / d) y d pos (omega (arith, div-mul-le-self x d))

@@ -1,4 +1,3 @@
-pub mod Sums
 pub mod Growth
 pub mod Windows
 pub mod Bests
@@ -8,3 +7,4 @@ pub mod Exact
 pub mod Filling
 pub mod Loads
 pub mod OneRow
+pub mod Promises

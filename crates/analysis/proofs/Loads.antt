@@ -16,7 +16,7 @@ use Rattle.analysis.specs.declared.lanes.Lane.{Lane}
 use Rattle.analysis.proofs.Counting.{ceil-small}
 use Rattle.analysis.proofs.Exact.{own-count}
 use Rattle.analysis.proofs.Growth.{work-mono}
-use Rattle.analysis.proofs.Sums.{sum-same, sum-term}
+use Rattle.theory.proofs.Sums.{sum-cong, sum-split}
 use Rattle.analysis.proofs.Windows.{covers-solves, least-upto}
 
 module _ (s : Task-set) (checked : Checked s) (ls : List Lane) (long : length ls ≡ task-count s) (full : (j : ℕ) → j < task-count s → Full-lane (task-at s j) (lane-at ls j)) where
@@ -31,7 +31,7 @@ module _ (s : Task-set) (checked : Checked s) (ls : List Lane) (long : length ls
 
   pub full-work : (t : ℕ) → t ≤ 60000 → 0 + lanes-work ls t ≡ load s t
   full-work t h =
-      let same : sum-below (task-count s) (λ j. lane-jobs (lane-at ls j) t * lane-at ls j .cost) ≡ load s t = sum-same (task-count s) (λ j. lane-jobs (lane-at ls j) t * lane-at ls j .cost) (λ j. ceil-div t (task-at s j .period) * task-at s j .cost) each in
+      let same : sum-below (task-count s) (λ j. lane-jobs (lane-at ls j) t * lane-at ls j .cost) ≡ load s t = sum-cong (task-count s) (λ j. lane-jobs (lane-at ls j) t * lane-at ls j .cost) (λ j. ceil-div t (task-at s j .period) * task-at s j .cost) each in
       omega (arith, same, ap (λ n. sum-below n (λ j. lane-jobs (lane-at ls j) t * lane-at ls j .cost)) long)
     where
       each : (j : ℕ) → j < task-count s → lane-jobs (lane-at ls j) t * lane-at ls j .cost ≡ ceil-div t (task-at s j .period) * task-at s j .cost
@@ -46,7 +46,7 @@ module _ (s : Task-set) (checked : Checked s) (ls : List Lane) (long : length ls
   loaded t h =
       let some = count-ranges s checked .0 in
       let r = task-ranges s checked 0 some in
-      let one = sum-term (task-count s) (λ j. ceil-div t (task-at s j .period) * task-at s j .cost) 0 some in
+      let one = sum-split (task-count s) 0 (λ j. ceil-div t (task-at s j .period) * task-at s j .cost) some in
       omega (arith, one, mul-le-mul {n₁ = 1} {m₁ = 1} {n₂ = ceil-div t (task-at s 0 .period)} {m₂ = task-at s 0 .cost} (omega (arith, own-count 0 t (task-at s 0 .period) (r .period-low) h)) (r .cost-low))
 
   pub climbed-busy : (t : ℕ) → 1 ≤ t → t ≤ 60000 → 0 + lanes-work ls t ≤ t → ((v : ℕ) → 1 ≤ v → 0 + lanes-work ls v ≤ v → t ≤ v) → Busy-period s t

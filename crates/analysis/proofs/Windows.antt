@@ -18,7 +18,8 @@ use Rattle.analysis.specs.declared.lanes.Lane.{Lane}
 use Rattle.analysis.specs.declared.window.Own.{Own}
 use Rattle.table.specs.declared.kinds.Mode.{Mode}
 use Rattle.table.specs.declared.kinds.Mode.the-variants.{NonPreemptive, Preemptive}
-use Rattle.analysis.proofs.Sums.{sum-mono, sum-same, max-same}
+use Rattle.theory.proofs.Sums.{sum-mono, sum-cong}
+use Rattle.theory.proofs.OneMore.{max-same}
 use Rattle.analysis.proofs.Growth.{div-mono, work-mono}
 
 -- the first number that covers its own work is the least solution
@@ -41,7 +42,7 @@ module _ (a : ℕ) (ls : List Lane) where
   pub limited-work : (t : ℕ) → lanes-work (map (limited a) ls) t ≡ sum-below (length ls) (λ j. lane-jobs (limited a (lane-at ls j)) t * lane-at ls j .cost)
   limited-work t =
       ap (λ n. sum-below n (λ j. lane-jobs (lane-at (map (limited a) ls) j) t * lane-at (map (limited a) ls) j .cost)) (length-map ls (limited a))
-      ∙ sum-same (length ls) (λ j. lane-jobs (lane-at (map (limited a) ls) j) t * lane-at (map (limited a) ls) j .cost) (λ j. lane-jobs (limited a (lane-at ls j)) t * lane-at ls j .cost) (λ j h. ap (λ (l : Lane). lane-jobs l t * l .cost) (limited-at j h))
+      ∙ sum-cong (length ls) (λ j. lane-jobs (lane-at (map (limited a) ls) j) t * lane-at (map (limited a) ls) j .cost) (λ j. lane-jobs (limited a (lane-at ls j)) t * lane-at ls j .cost) (λ j h. ap (λ (l : Lane). lane-jobs l t * l .cost) (limited-at j h))
 
   pub limited-block : (b : ℕ) → lanes-block (map (limited a) ls) b ≡ lanes-block ls b
   limited-block b =

@@ -28,10 +28,6 @@ row-at rows i = getD rows i no-row
 abbrev pub Row-of : Task-set → Order → ℕ → ℕ → Row → Type 0
 Row-of s o L i row = Worst s o L i (row .response) (row .offset) × (row .deadline ≡ task-at s i .deadline)
 
--- responses and offsets are below 100,000
-abbrev pub Small-row : Row → Type 0
-Small-row row = (row .response < 100000) × (row .offset < 100000)
-
 abbrev pub Meets : List Row → ℕ → Type 0
 Meets rows i = row-at rows i .response ≤ row-at rows i .deadline
 

@@ -7,8 +7,9 @@ ghost use Rattle.table.specs.Model.{content};
 ghost use Rattle.table.specs.Rules.{task-at, task-count};
 ghost use Rattle.policy.specs.Laws.{Small-reach};
 ghost use Rattle.theory.specs.BusyPeriod.{Busy-period};
-ghost use Rattle.analysis.specs.Judged.{Judged, Row-of, Small-row, Verdict-of, row-at};
+ghost use Rattle.analysis.specs.Judged.{Judged, Row-of, Verdict-of, row-at};
 ghost use Rattle.analysis.specs.Lanes.{lane-at};
+ghost use Rattle.analysis.specs.Promised.{Rows-bound, Rows-attained, Verdict-exact};
 ghost use Rattle.analysis.specs.Reaches.{lead-of, Lane-to};
 use crate::busy::busy_period;
 use crate::lanes::IDLE;
@@ -67,8 +68,7 @@ fn lanes_of<P: Policy>(policy: &P, table: &Table, i: usize) -> [Lane; 24]
 fn row_of<P: Policy>(policy: &P, table: &Table, busy: u32, i: usize) -> Row
     requires busy { ⌜ Busy-period (content (now table)) busy ⌝ }
     requires short { ⌜ busy ≤ 60000 ⌝ }
-    ensures row { λ r. ⌜ (i < task-count (content (now (table .entry))) → Row-of (content (now (table .entry))) (meaning (now (policy .entry)) (content (now (table .entry)))) busy i r) ⌝ }
-    ensures small { λ r. ⌜ (i < task-count (content (now (table .entry))) → Small-row r) ⌝ }
+    ensures { λ r. ⌜ (i < task-count (content (now (table .entry))) → Row-of (content (now (table .entry))) (meaning (now (policy .entry)) (content (now (table .entry)))) busy i r) ⌝ }
 {
     let mut lanes = lanes_of(policy, table, i);
     match table.task(i) {
@@ -111,7 +111,6 @@ fn fill_rows<P: Policy>(policy: &P, table: &Table, busy: u32, rows: &mut [Row])
     requires short { ⌜ busy ≤ 60000 ⌝ }
     requires enough { ⌜ task-count (content (now table)) ≤ length (now rows) ⌝ }
     ensures each { λ _. ⌜ ((i : ℕ) → i < task-count (content (now (table .entry))) → Row-of (content (now (table .entry))) (meaning (now (policy .entry)) (content (now (table .entry)))) busy i (row-at (now (rows .exit)) i)) ⌝ }
-    ensures small { λ _. ⌜ ((i : ℕ) → i < task-count (content (now (table .entry))) → Small-row (row-at (now (rows .exit)) i)) ⌝ }
     ensures rest { λ _. ⌜ drop (task-count (content (now (table .entry)))) (now (rows .exit)) ≡ drop (task-count (content (now (table .entry)))) (now (rows .entry)) ⌝ }
 {
     for i in 0..table.count() {
@@ -120,10 +119,13 @@ fn fill_rows<P: Policy>(policy: &P, table: &Table, busy: u32, rows: &mut [Row])
 }
 
 /// Judges a table under a policy: writes one row for each task, leaves further rows untouched, and answers the busy period and the verdict.
+/// For every run of the table under the policy: no job is unfinished as long after its release as its row's response, in an admitted table each task's worst course attains it, and the table is late exactly when some list of calls leaves a job unfinished at its deadline.
 /// Refused, with the rows as they were, where fewer rows are lent than there are tasks, and then where there is no busy period of up to 60,000 ticks.
 pub fn judge<P: Policy>(policy: &P, table: &Table, rows: &mut [Row]) -> Result<Judgement, Refusal>
     ensures judged { λ r. ⌜ Judged (content (now (table .entry))) (meaning (now (policy .entry)) (content (now (table .entry)))) (now (rows .entry)) (now (rows .exit)) r ⌝ }
-    ensures small { λ r. ⌜ made r (λ _. (i : ℕ) → i < task-count (content (now (table .entry))) → Small-row (row-at (now (rows .exit)) i)) ⌝ }
+    ensures never_longer { λ r. ⌜ made r (λ _. Rows-bound (content (now (table .entry))) (meaning (now (policy .entry)) (content (now (table .entry)))) (now (rows .exit))) ⌝ }
+    ensures attained { λ r. ⌜ made r (λ j. Rows-attained (content (now (table .entry))) (meaning (now (policy .entry)) (content (now (table .entry)))) (now (rows .exit)) (j .verdict)) ⌝ }
+    ensures late_exactly { λ r. ⌜ made r (λ j. Verdict-exact (content (now (table .entry))) (meaning (now (policy .entry)) (content (now (table .entry)))) (j .verdict)) ⌝ }
 {
     let count = table.count();
     if rows.len() < count {

@@ -61,3 +61,41 @@ refusal-place (NoTaskToRun j) = None
 refusal-place (TooSoon j) = None
 refusal-place (QueueFull j) = None
 refusal-place TimeOver = None
+
+-- the rank that could not be filled
+abbrev pub refusal-rank : Refusal → Option ℕ
+refusal-rank (Ended p) = None
+refusal-rank (WrongMark p) = None
+refusal-rank (HeaderRange p) = None
+refusal-rank (TaskRange p) = None
+refusal-rank (RankTaken p) = None
+refusal-rank (NameByte p) = None
+refusal-rank (Trailing p) = None
+refusal-rank FewRows = None
+refusal-rank ShortOutput = None
+refusal-rank NoBusyPeriod = None
+refusal-rank (RankUnfilled k) = Some k
+refusal-rank (NoTaskToJudge j) = None
+refusal-rank (NoTaskToRun j) = None
+refusal-rank (TooSoon j) = None
+refusal-rank (QueueFull j) = None
+refusal-rank TimeOver = None
+
+-- the task number given
+abbrev pub refusal-task : Refusal → Option ℕ
+refusal-task (Ended p) = None
+refusal-task (WrongMark p) = None
+refusal-task (HeaderRange p) = None
+refusal-task (TaskRange p) = None
+refusal-task (RankTaken p) = None
+refusal-task (NameByte p) = None
+refusal-task (Trailing p) = None
+refusal-task FewRows = None
+refusal-task ShortOutput = None
+refusal-task NoBusyPeriod = None
+refusal-task (RankUnfilled k) = None
+refusal-task (NoTaskToJudge j) = Some j
+refusal-task (NoTaskToRun j) = Some j
+refusal-task (TooSoon j) = Some j
+refusal-task (QueueFull j) = Some j
+refusal-task TimeOver = None

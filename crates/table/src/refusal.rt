@@ -1,6 +1,6 @@
 //! Every refusal of the planner, with its number, its layer and what goes with it.
 ghost use mathlib.Core.Path.{_≡_};
-ghost use Rattle.table.specs.Refusals.{refusal-number, refusal-layer, refusal-place};
+ghost use Rattle.table.specs.Refusals.{refusal-number, refusal-layer, refusal-place, refusal-rank, refusal-task};
 
 /// Which part of the planner refused.
 #[derive(Clone, Copy, PartialEq, Eq)]
@@ -69,6 +69,69 @@ impl Refusal {
             Refusal::TooSoon { task: _ } => 13,
             Refusal::QueueFull { task: _ } => 14,
             Refusal::TimeOver => 15,
+        }
+    }
+
+    /// Which part of the planner refused.
+    pub fn layer(self) -> Layer
+        ensures { λ r. ⌜ r ≡ refusal-layer self ⌝ }
+    {
+        match self {
+            Refusal::Ended { place: _ } => Layer::Reading,
+            Refusal::WrongMark { place: _ } => Layer::Reading,
+            Refusal::HeaderRange { place: _ } => Layer::Reading,
+            Refusal::TaskRange { place: _ } => Layer::Reading,
+            Refusal::RankTaken { place: _ } => Layer::Reading,
+            Refusal::NameByte { place: _ } => Layer::Reading,
+            Refusal::Trailing { place: _ } => Layer::Reading,
+            Refusal::FewRows => Layer::Judging,
+            Refusal::ShortOutput => Layer::Judging,
+            Refusal::NoBusyPeriod => Layer::Judging,
+            Refusal::RankUnfilled { rank: _ } => Layer::Judging,
+            Refusal::NoTaskToJudge { task: _ } => Layer::Judging,
+            Refusal::NoTaskToRun { task: _ } => Layer::Running,
+            Refusal::TooSoon { task: _ } => Layer::Running,
+            Refusal::QueueFull { task: _ } => Layer::Running,
+            Refusal::TimeOver => Layer::Running,
+        }
+    }
+
+    /// The place in the input, for a refusal of reading; none for any other.
+    pub fn place(self) -> Option<usize>
+        ensures { λ r. ⌜ r ≡ refusal-place self ⌝ }
+    {
+        match self {
+            Refusal::Ended { place } => Some(place),
+            Refusal::WrongMark { place } => Some(place),
+            Refusal::HeaderRange { place } => Some(place),
+            Refusal::TaskRange { place } => Some(place),
+            Refusal::RankTaken { place } => Some(place),
+            Refusal::NameByte { place } => Some(place),
+            Refusal::Trailing { place } => Some(place),
+            _ => None,
+        }
+    }
+
+    /// The rank that could not be filled; none for any other refusal.
+    pub fn rank(self) -> Option<usize>
+        ensures { λ r. ⌜ r ≡ refusal-rank self ⌝ }
+    {
+        match self {
+            Refusal::RankUnfilled { rank } => Some(rank),
+            _ => None,
+        }
+    }
+
+    /// The task number given, for a refusal that goes with one; none for any other.
+    pub fn task(self) -> Option<usize>
+        ensures { λ r. ⌜ r ≡ refusal-task self ⌝ }
+    {
+        match self {
+            Refusal::NoTaskToJudge { task } => Some(task),
+            Refusal::NoTaskToRun { task } => Some(task),
+            Refusal::TooSoon { task } => Some(task),
+            Refusal::QueueFull { task } => Some(task),
+            _ => None,
         }
     }
 }

@@ -70,9 +70,12 @@ module _ (s : Task-set) (o : Order) (checked : Checked s) (law : Lawful s o) (i 
   cost-low : 1 ≤ task-at s i .cost
   cost-low = task-ranges s checked i here .cost-low
 
+  -- the busy period covers what is asked for before the job is finished
+  pub finish-covered : (L : ℕ) → Busy-period s L → a < L → until-finish s o i a L ≤ L
+  finish-covered L busy lt = omega (arith, busy .solves, load-split L, work-fit L, mul-le-mul-right (task-at s i .cost) (own-fit L lt))
+
   pub finish-exists : (L : ℕ) → Busy-period s L → a < L → (F : ℕ) × Least-solution 1 (until-finish s o i a) F × (F ≤ L)
-  finish-exists L busy lt = solution 1 (until-finish s o i a) L until-finish-mono (omega (arith, add-mul 1 (a / task-at s i .period) (task-at s i .cost), cost-low)) (busy .from)
-      (omega (arith, busy .solves, load-split L, work-fit L, mul-le-mul-right (task-at s i .cost) (own-fit L lt)))
+  finish-exists L busy lt = solution 1 (until-finish s o i a) L until-finish-mono (omega (arith, add-mul 1 (a / task-at s i .period) (task-at s i .cost), cost-low)) (busy .from) (finish-covered L busy lt)
 
   -- a task that blocks has no job ahead
   none-ahead : (j t : ℕ) → j < task-count s → (j ≡ i → ⊥) → o .ahead (job i (pos a)) (job j (negsuc 0)) ≡ true → jobs-ahead s o i a j t ≡ 0
@@ -114,22 +117,24 @@ module _ (s : Task-set) (o : Order) (checked : Checked s) (law : Lawful s o) (i 
                   each j lt false true = omega arith
                   each j lt false false = mul-le-mul-right (task-at s j .cost) (jobs-ahead-fit j L lt)
 
-  pub start-exists : (L : ℕ) → Busy-period s L → a < L → (G : ℕ) × Least-solution 0 (until-start s o i a) G × (G ≤ L - 1)
-  start-exists L busy lt = solution 0 (until-start s o i a) (L - 1) until-start-mono (omega arith) (omega arith)
-      (fits (omega (arith, busy .from)))
-    where
-      fits : suc (L - 1) ≡ L → until-start s o i a (L - 1) ≤ L - 1
-      fits e = omega (
+  -- and before it begins, with a tick to spare
+  pub start-covered : (L : ℕ) → Busy-period s L → a < L → until-start s o i a (L - 1) ≤ L - 1
+  start-covered L busy lt =
+      let back : suc (L - 1) ≡ L = omega (arith, busy .from) in
+      omega (
         arith,
         busy .from,
         busy .solves,
         load-split L,
         blocked-fit L (busy .from),
         cost-low,
-        ap (λ z. work-ahead s o i a z) e,
+        ap (λ z. work-ahead s o i a z) back,
         mul-le-mul-right (task-at s i .cost) (own-fit L lt),
         add-mul 1 (a / task-at s i .period) (task-at s i .cost),
       )
+
+  pub start-exists : (L : ℕ) → Busy-period s L → a < L → (G : ℕ) × Least-solution 0 (until-start s o i a) G × (G ≤ L - 1)
+  start-exists L busy lt = solution 0 (until-start s o i a) (L - 1) until-start-mono (omega arith) (omega arith) (start-covered L busy lt)
 
   -- every offset in the busy period has a response
   pub response-exists : (L : ℕ) → Busy-period s L → a < L → (r : ℕ) × Response-at s o i a r

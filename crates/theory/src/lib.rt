@@ -3,3 +3,4 @@ ghost use Rattle.theory.specs.Guarantee.{Never-longer};
 
 pub mod classical;
 pub mod facts;
+pub mod guarantee;

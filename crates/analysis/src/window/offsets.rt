@@ -35,8 +35,7 @@ fn own_work(own: Own, lanes: &[Lane], a: u32) -> u64
 fn response(own: Own, t: u32, a: u32) -> u32
     requires own { ⌜ Sound-own own ⌝ }
     requires short { ⌜ t ≤ 60000 ⌝ }
-    ensures value { λ r. ⌜ r ≡ response-in (own .mode) (own .cost) a t ⌝ }
-    ensures bound { λ r. ⌜ r ≤ 64096 ⌝ }
+    ensures { λ r. ⌜ r ≡ response-in (own .mode) (own .cost) a t ⌝ }
 {
     match own.mode {
         Mode::Preemptive => own.cost.max(t.saturating_sub(a)),
@@ -102,8 +101,7 @@ pub(crate) fn worst_response(own: Own, lanes: &mut [Lane], busy: u32) -> (u32, u
     requires short { ⌜ busy ≤ 60000 ⌝ }
     requires some { ⌜ 1 ≤ busy ⌝ }
     requires fits { ⌜ ((a : ℕ) → a < busy → window-work own (now lanes) a busy ≤ busy) ⌝ }
-    ensures best { λ r. ⌜ Best (Lane-response own (now (lanes .entry)) busy) busy (r .0) (r .1) ⌝ }
-    ensures bound { λ r. ⌜ r .0 ≤ 64096 ⌝ }
+    ensures { λ r. ⌜ Best (Lane-response own (now (lanes .entry)) busy) busy (r .0) (r .1) ⌝ }
 {
     let mut best = (0, 0);
     let mut last = Solved { work: 0, at: 1 };

@@ -4,7 +4,7 @@ use native.Mathlib.Omega.{arith}
 use lib.ListN.{length}
 use Rattle.table.specs.Model.{content}
 use Rattle.table.specs.Rules.{task-count}
-use Rattle.analysis.specs.Judged.{Row-of, Small-row, no-row}
+use Rattle.analysis.specs.Judged.{Row-of, no-row}
 use Rattle.analysis.proofs.Filling.{filled-more, rest-more}
 use Rattle.analysis.proofs.judging.fill_rows.Needs as need
 
@@ -15,7 +15,6 @@ loop-i-again g c =
     let rows = c .loop-i .rows in
     let known : i < task-count s = omega (arith, c .count-i-end .ensures, c .loop-i-test .taken) in
     let here : i < length rows = omega (arith, known, c .pre .enough, c .loop-i .kept .rows) in (
-      filled-more no-row (λ k row. Row-of s (g .P·Policy .meaning (c .args .policy .now) s) (c .args .busy) k row) rows i (c .row-of .result) here (c .loop-i .inv .0) (c .row-of .ensures .row known),
-      filled-more no-row (λ k row. Small-row row) rows i (c .row-of .result) here (c .loop-i .inv .1) (c .row-of .ensures .small known),
-      rest-more rows (c .args .rows .now) i (c .row-of .result) (c .loop-i .inv .2),
+      filled-more no-row (λ k row. Row-of s (g .P·Policy .meaning (c .args .policy .now) s) (c .args .busy) k row) rows i (c .row-of .result) here (c .loop-i .inv .0) (c .row-of .ensures known),
+      rest-more rows (c .args .rows .now) i (c .row-of .result) (c .loop-i .inv .1),
     )

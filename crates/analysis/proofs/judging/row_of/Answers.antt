@@ -43,8 +43,5 @@ returns-in-Some g c =
     let laws = lawful s (g .P·Policy .meaning p s) (met .total p s (table-checked t)) (met .transitive p s (table-checked t)) (met .earlier p s (table-checked t)) (met .range p s (table-checked t)) (met .rule p s (table-checked t)) in
     let found = c .in-Some .ensures tt in
     let own = own-is t (c .args .i) (c .in-Some .task) (c .mode .result) (c .mode .ensures) (found .1) in
-    let best = c .worst-response-response .ensures .best in
-    record {
-      row = λ known. (front-worst t (g .P·Policy .meaning p s) laws (c .args .i) (found .0) (c .lanes-of-lanes .result) (c .count .result) (c .lanes-of-lanes .ensures .room) (c .count .ensures) (c .lanes-of-lanes .ensures .each) (c .args .busy) (c .pre .busy) (c .pre .short) (own-record (c .mode .result) (c .in-Some .task .cost) (c .in-Some .task .period)) own (c .worst-response-response .result .0) (c .worst-response-response .result .1) best, ap (λ (x : Sporadic). x .deadline) (found .1));
-      small = λ known. (omega (arith, c .worst-response-response .ensures .bound), omega (arith, best .inside, c .pre .short));
-    }
+    let best = c .worst-response-response .ensures in
+    λ known. (front-worst t (g .P·Policy .meaning p s) laws (c .args .i) (found .0) (c .lanes-of-lanes .result) (c .count .result) (c .lanes-of-lanes .ensures .room) (c .count .ensures) (c .lanes-of-lanes .ensures .each) (c .args .busy) (c .pre .busy) (c .pre .short) (own-record (c .mode .result) (c .in-Some .task .cost) (c .in-Some .task .period)) own (c .worst-response-response .result .0) (c .worst-response-response .result .1) best, ap (λ (x : Sporadic). x .deadline) (found .1))

@@ -4,7 +4,7 @@ use mathlib.Core.Path.{_≡_, sym, ap, ap₂, _∙_}
 use native.Mathlib.Omega.{arith}
 use lib.Dec.{ltb}
 use Rattle.analysis.specs.Lanes.{lane-at}
-use Rattle.analysis.proofs.Sums.{max-more, max-none}
+use Rattle.theory.proofs.OneMore.{max-more, max-none}
 use Rattle.analysis.proofs.lanes.blocking.Needs as need
 
 pub loop-lane-holds : need.loop-lane-holds

@@ -4,7 +4,7 @@ use native.Mathlib.Omega.{arith}
 use borrow.Author.Needs.{needs}
 use Rattle.theory.specs.Sums.{sum-below}
 use Rattle.analysis.specs.Lanes.{lane-at, lane-jobs}
-use Rattle.analysis.proofs.Sums.{sum-more, sum-none}
+use Rattle.theory.proofs.OneMore.{sum-more, sum-none}
 use Rattle.analysis.proofs.lanes.work.Needs as need
 
 pub loop-lane-holds : need.loop-lane-holds

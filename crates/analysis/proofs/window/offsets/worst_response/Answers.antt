@@ -2,7 +2,6 @@ use mathlib.Core.Path.{_≡_, sym, ap, subst, _∙_}
 use mathlib.Core.List.{List, map}
 use Prim.Native.Nat.{ℕ, _+_, _≤_, _<_, max}
 use native.Mathlib.Omega.{arith}
-use Rattle.std.proofs.shelf.Ways.{tells}
 use Rattle.table.specs.declared.kinds.Mode.{Mode}
 use Rattle.table.specs.declared.kinds.Mode.the-variants.{NonPreemptive, Preemptive}
 use Rattle.analysis.specs.Lanes.{limited, lanes-work, Sound}
@@ -41,8 +40,8 @@ loop-a-again c =
     let inv = c .loop-a .inv in
     let solved = c .solve-last .ensures in
     let at = c .solve-last .result .at in
-    let here : Lane-response w ls (c .args .busy) a (c .response .result) = (at, solved .inside, least-same 1 at (window-work w cur a) (window-work w ls a) (same-window w cur ls (inv .1) a) (solved .solved), c .response .ensures .value) in
-    let some : 1 ≤ c .response .result = omega (arith, at-least-cost (w .mode) (w .cost) a at, c .response .ensures .value, c .pre .own .cost-low) in (
+    let here : Lane-response w ls (c .args .busy) a (c .response .result) = (at, solved .inside, least-same 1 at (window-work w cur a) (window-work w ls a) (same-window w cur ls (inv .1) a) (solved .solved), c .response .ensures) in
+    let some : 1 ≤ c .response .result = omega (arith, at-least-cost (w .mode) (w .cost) a at, c .response .ensures, c .pre .own .cost-low) in (
       subst Sound (sym (solved .lanes)) (limited-sound a cur (inv .0)),
       λ b. ap (map (limited b)) (solved .lanes) ∙ limited-twice a b cur ∙ inv .1 b,
       so-far-more (Lane-response w ls (c .args .busy)) a (c .loop-a .best .0) (c .loop-a .best .1) (c .response .result) (c .better-best .result .0) (c .better-best .result .1) (inv .2) here some (c .better-best .ensures .longer) (c .better-best .ensures .first),
@@ -51,5 +50,4 @@ loop-a-again c =
           let same : lanes-work (map (limited a) cur) v ≡ lanes-work (map (limited a) ls) v = ap (λ ys. lanes-work ys v) (inv .1 a) in
           let grows = offset-mono ls (c .pre .sound) a (a + 1) v (omega arith) in
           solved .low v from (omega (arith, same, grows, covers, solved .work))),
-      grind (arith, tells, inv .5, c .response .ensures .bound, c .better-best .ensures .longer),
     )
