@@ -7,16 +7,12 @@ use native.Mathlib.Nat.{add-mul, mul-le-mul-right}
 use Rattle.std.proofs.shelf.Tests.{cases-lt}
 use Rattle.theory.specs.LeastSolution.{Least-solution}
 use Rattle.theory.specs.BusyPeriod.{ceil-div}
-use Rattle.theory.proofs.Solutions.{Monotone, solution}
-use Rattle.theory.proofs.WorstExists.{one-solution}
+use Rattle.theory.proofs.Solutions.{Monotone}
+use Rattle.theory.proofs.Demand.{least-under}
 use Rattle.theory.proofs.Divisions.{ceil-least, ceil-covers, ceil-above}
 
 module _ (low T level : ℕ) (W : ℕ → ℕ → ℕ) (period : 1 ≤ T) (some : 1 ≤ level) (mono : (q : ℕ) → Monotone (W q)) (first : (q : ℕ) → low ≤ W q low)
   (moved : (q t : ℕ) → W (q + ceil-div level T) (level + t) ≤ level + W q t) where
-  -- not above any c with W c ≤ c
-  not-above : (q w c : ℕ) → Least-solution low (W q) w → low ≤ c → W q c ≤ c → w ≤ c
-  not-above q w c sol from le = let x = solution low (W q) c (mono q) (first q) from le in omega (arith, one-solution low (W q) w (x .0) sol (x .1), x .2)
-
   -- a solution w of W q is not above one of W p, with p·T below the level, by more than q is above p
   pub descend : (L : ℕ) → ((q : ℕ) → q * T < L → (w : ℕ) × Least-solution low (W q) w) → (q w : ℕ) → q * T < L → Least-solution low (W q) w → (p : ℕ) × (v : ℕ) × (p * T < level) × Least-solution low (W p) v × (w + p * T ≤ v + q * T)
   descend L exists q w inside sol = upto (suc q) q w (omega arith) inside sol
@@ -43,7 +39,7 @@ module _ (low T level : ℕ) (W : ℕ → ℕ → ℕ) (period : 1 ≤ T) (some 
 
               two : (v : ℕ) × Least-solution low (W back) v → back + step ≡ q → (x : ℕ) × (y : ℕ) × (x * T < level) × Least-solution low (W x) y × (w + x * T ≤ y + q * T)
               two (v, mine) e =
-                  let shifted : w ≤ level + v = not-above q w (level + v) here (omega (arith, mine .from)) (omega (arith, ap (λ z. W z (level + v)) e, moved back v, mine .solves)) in
+                  let shifted : w ≤ level + v = least-under low (W q) w (level + v) here (mono q) (first q) (omega (arith, mine .from)) (omega (arith, ap (λ z. W z (level + v)) e, moved back v, mine .solves)) in
                   let one : 1 ≤ step = ceil-above level T 0 period (omega arith) in
                   let r = again back v (omega arith) (omega (arith, mul-le-mul-right T fewer)) mine in
                   (r .0, r .1, r .2, r .3, omega (arith, r .4, ap (λ z. z * T) e, add-mul back step T, ceil-covers level T period))

@@ -1,20 +1,19 @@
 -- Among the jobs of a list released from x on, the one that all the others lead.
 use Prim.Native.Nat.{ℕ, _≤_, _<_}
-use mathlib.Core.Bool.{true, false, not, _&&_}
+use mathlib.Core.Bool.{true, false}
 use mathlib.Core.List.{List, [], _∷_}
-use mathlib.Core.Path.{_≡_, refl, sym, ap, subst, _∙_}
+use mathlib.Core.Path.{_≡_, refl, sym, ap, subst}
 use mathlib.Core.Logic.{_⊎_, inl, inr}
 use native.Mathlib.Omega.{arith}
-use lib.Dec.{eqb}
-use lib.IntN.{pos}
-use Rattle.std.proofs.shelf.Tests.{cases-bool, cases-lt, or-cases, or-from, and-parts, and-left, and-right, eqb-true, ne-eqb, cases-eq}
+use Rattle.std.proofs.shelf.Tests.{cases-bool, cases-lt}
 use Rattle.table.specs.Rules.{Task-set, task-count}
-use Rattle.policy.specs.Order.{Order, job}
+use Rattle.policy.specs.Order.{Order}
 use Rattle.policy.specs.Laws.{Lawful}
 use Rattle.theory.specs.Lists.{In}
 use Rattle.theory.specs.Machine.{Work}
-use Rattle.theory.proofs.Orders.{leads, leads-self, leads-total, leads-trans, job-task, job-release}
+use Rattle.theory.proofs.Orders.{leads, leads-self, leads-total, leads-trans}
 use Rattle.theory.proofs.Choice.{front}
+use Rattle.theory.proofs.Floor.{leads-both}
 
 -- all jobs of the list from x on lead K
 abbrev pub Last-from : Order → ℕ → List Work → Work → Type 0
@@ -23,15 +22,11 @@ Last-from o x ws K = (v : Work) → In v ws → x ≤ v .release → front o v K
 module _ (s : Task-set) (o : Order) (law : Lawful s o) where
   -- a job that leads K and is another one is not led by K
   pub not-led : (i a j r : ℕ) → i < task-count s → j < task-count s → (j ≡ i → r ≡ a → ⊥) → leads o i a j r ≡ true → leads o j r i a ≡ false
-  not-led i a j r hi hj ne h = or-from (eqb i j && eqb a r) (o .ahead (job i (pos a)) (job j (pos r))) (different (cases-eq i j)) (law .total (job i (pos a)) (job j (pos r)) hi hj (λ e. ne (sym (job-task e)) (sym (job-release e))) ∙ ap not (ahead (or-cases (eqb j i && eqb r a) (o .ahead (job j (pos r)) (job i (pos a))) h)))
+  not-led i a j r hi hj ne h = go (cases-bool (leads o j r i a))
     where
-      different : (i ≡ j) ⊎ (i ≡ j → ⊥) → (eqb i j && eqb a r) ≡ false
-      different (inl e) = and-right (eqb i j) (eqb a r) (ne-eqb a r (λ q. ne (sym e) (sym q)))
-      different (inr e) = and-left (eqb i j) (eqb a r) (ne-eqb i j e)
-
-      ahead : ((eqb j i && eqb r a) ≡ true) ⊎ (o .ahead (job j (pos r)) (job i (pos a)) ≡ true) → o .ahead (job j (pos r)) (job i (pos a)) ≡ true
-      ahead (inl e) = let p = and-parts (eqb j i) (eqb r a) e in absurd (ne (eqb-true j i (p .0)) (eqb-true r a (p .1)))
-      ahead (inr e) = e
+      go : (leads o j r i a ≡ true) ⊎ (leads o j r i a ≡ false) → leads o j r i a ≡ false
+      go (inl e) = absurd (leads-both s o law i a j r hi hj ne h e)
+      go (inr e) = e
 
   pub last-from : (x : ℕ) (ws : List Work) → ((w : Work) → In w ws → w .task < task-count s) → ((w : Work) → In w ws → w .release < x) ⊎ ((K : Work) × In K ws × (x ≤ K .release) × Last-from o x ws K)
   last-from x [] known = inl (λ w m. absurd m)
