@@ -64,7 +64,7 @@ module _ (s : Task-set) (o : Order) (checked : Checked s) (law : Lawful s o) (i 
       go j lt true = omega arith
       go j lt false = mul-le-mul-right (task-at s j .cost) (jobs-ahead-fit j L lt)
 
-  load-split : (L : ℕ) → load s L ≡ ceil-div L (task-at s i .period) * task-at s i .cost + sum-below (task-count s) (λ j. cond (eqb j i) 0 (ceil-div L (task-at s j .period) * task-at s j .cost))
+  pub load-split : (L : ℕ) → load s L ≡ ceil-div L (task-at s i .period) * task-at s i .cost + sum-below (task-count s) (λ j. cond (eqb j i) 0 (ceil-div L (task-at s j .period) * task-at s j .cost))
   load-split L = sum-split (task-count s) i (λ j. ceil-div L (task-at s j .period) * task-at s j .cost) here
 
   cost-low : 1 ≤ task-at s i .cost
@@ -88,7 +88,7 @@ module _ (s : Task-set) (o : Order) (checked : Checked s) (law : Lawful s o) (i 
   ceil-low L j le hj = omega (arith, mul-le-mul-right (task-at s j .cost) (le-div-iff-mul-le {k = task-at s j .period} {x = 1} {y = L + (task-at s j .period - 1)} (task-ranges s checked j hj .period-low) .1 (omega arith)))
 
   -- blocking and the work ahead stay below what the other tasks ask for, or there is neither
-  blocked-fit : (L : ℕ) → 1 ≤ L → blocking s o i a + work-ahead s o i a L ≤ sum-below (task-count s) (λ j. cond (eqb j i) 0 (ceil-div L (task-at s j .period) * task-at s j .cost))
+  pub blocked-fit : (L : ℕ) → 1 ≤ L → blocking s o i a + work-ahead s o i a L ≤ sum-below (task-count s) (λ j. cond (eqb j i) 0 (ceil-div L (task-at s j .period) * task-at s j .cost))
   blocked-fit L le = go (max-taken (task-count s) (λ j. cond (eqb j i) 0 (cond (o .ahead (job i (pos a)) (job j (negsuc 0))) (task-at s j .cost - 1) 0)))
     where
       others : ℕ

@@ -1,6 +1,6 @@
 -- Least solutions of t = W t: where none can be yet, and that there is one.
 use Prim.Native.Nat.{ℕ, zero, suc, _+_, _-_, _≤_, _<_}
-use mathlib.Core.Path.{_≡_, sym, subst}
+use mathlib.Core.Path.{_≡_, sym, subst, _∙_}
 use mathlib.Core.Logic.{_⊎_, inl, inr}
 use native.Mathlib.Omega.{arith}
 use Rattle.std.proofs.shelf.Tests.{cases-eq, cases-lt}
@@ -16,6 +16,10 @@ beyond low W F t sol h = go (cases-lt t F)
     go : (t < F) ⊎ (F ≤ t) → t < F
     go (inl lt) = lt
     go (inr le) = absurd (omega (arith, h F (sol .from) le, sol .solves))
+
+-- two equal functions have the same solutions
+pub same-solution : (low : ℕ) (V W : ℕ → ℕ) (t : ℕ) → ((u : ℕ) → V u ≡ W u) → Least-solution low V t → Least-solution low W t
+same-solution low V W t same sol = record { from = sol .from; solves = sol .solves ∙ same t; least = λ v from e. sol .least v from (e ∙ sym (same v)) }
 
 -- W c ≤ c somewhere: there is a least solution, not above c
 pub solution : (low : ℕ) (W : ℕ → ℕ) (c : ℕ) → Monotone W → low ≤ W low → low ≤ c → W c ≤ c → (t : ℕ) × Least-solution low W t × (t ≤ c)
@@ -43,3 +47,11 @@ solution low W c mono first up cap = climb (c - low) low (omega arith) (omega ar
             both : (v : ℕ) → low ≤ v → v < suc t → (v ≡ t) ⊎ (v ≡ t → ⊥) → v < W v
             both v low-v below (inl e) = subst (λ z. z < W z) (sym e) lt
             both v low-v below (inr ne) = none v low-v (omega (arith, ne))
+
+-- below the least solution u < W u
+pub below-solution : (low : ℕ) (W : ℕ → ℕ) (t u : ℕ) → Monotone W → low ≤ W low → Least-solution low W t → low ≤ u → u < t → u < W u
+below-solution low W t u mono first sol from lt = go (cases-lt u (W u))
+  where
+    go : (u < W u) ⊎ (W u ≤ u) → u < W u
+    go (inl less) = less
+    go (inr le) = let x = solution low W u mono first from le in absurd (omega (arith, sol .least (x .0) (x .1 .from) (x .1 .solves), x .2))

@@ -49,6 +49,11 @@ sum-single n i f h others = omega (arith, sum-split n i f h, sum-zero n (λ j. c
     go j lt (inl e) = cond-true (eqb j i) 0 (f j) (eq-eqb j i e)
     go j lt (inr ne) = cond-false (eqb j i) 0 (f j) (ne-eqb j i ne) ∙ others j lt ne
 
+pub max-cong : (n : ℕ) (f g : ℕ → ℕ) → ((j : ℕ) → j < n → f j ≡ g j) → max-below n f ≡ max-below n g
+unfolding max-below
+max-cong zero f g h = refl
+max-cong (suc n) f g h = omega (arith, max-cong n f g (λ j lt. h j (omega arith)), h n (omega arith))
+
 pub max-at : (n j : ℕ) (f : ℕ → ℕ) → j < n → f j ≤ max-below n f
 unfolding max-below
 max-at zero j f h = absurd (not-suc-le-zero h)

@@ -7,3 +7,5 @@ pub mod Lists
 pub mod Machine
 pub mod Course
 pub mod Guarantee
+pub mod FixedPriority
+pub mod DemandCriterion
