@@ -1,11 +1,7 @@
 //! The published analyses of fixed priorities and of deadline order, as theorems about the worst responses defined here.
 ghost use Prim.Native.Nat.{ℕ};
 ghost use Rattle.table.specs.Rules.{Task-set, Checked};
-ghost use Rattle.policy.specs.Order.{Order};
-ghost use Rattle.policy.specs.Laws.{Lawful};
-ghost use Rattle.policy.specs.Orders.{deadline-order};
 ghost use Rattle.theory.specs.BusyPeriod.{Busy-period};
-ghost use Rattle.theory.specs.Guarantee.{Admitted-by};
 ghost use Rattle.theory.specs.FixedPriority.{Fixed-as-published};
 ghost use Rattle.theory.specs.DemandCriterion.{Criterion-needed, Deadline-as-published};
 
@@ -19,8 +15,7 @@ pub fn deadline_order_is_the_criterion()
     ensures { λ _. ⌜ ((s : Task-set) (L : ℕ) → Checked s → Busy-period s L → Deadline-as-published s L) ⌝ }
 {}
 
-/// Every lawful order that admits a checked table needs the demand criterion, so deadline order admits whatever any lawful order admits.
-pub fn deadline_order_is_best()
-    ensures needed { λ _. ⌜ ((s : Task-set) (L : ℕ) → Checked s → Busy-period s L → Criterion-needed s L) ⌝ }
-    ensures best { λ _. ⌜ ((s : Task-set) (o : Order) (L : ℕ) → Checked s → Lawful s o → Busy-period s L → Admitted-by s o L → Admitted-by s (deadline-order s) L) ⌝ }
+/// Every lawful order that admits a checked table needs the demand criterion.
+pub fn criterion_is_needed()
+    ensures { λ _. ⌜ ((s : Task-set) (L : ℕ) → Checked s → Busy-period s L → Criterion-needed s L) ⌝ }
 {}
