@@ -26,8 +26,7 @@ use Rattle.analysis.specs.Lanes.{lane-at, lane-jobs, lanes-work, lane-limit, l
 use Rattle.analysis.specs.Reaches.{lead-of, Lane-to}
 use Rattle.analysis.specs.declared.lanes.Lane.{Lane}
 use Rattle.analysis.proofs.Counting.{count-same, count-both}
-use Rattle.theory.proofs.Sums.{sum-cong}
-use Rattle.theory.proofs.OneMore.{max-same}
+use Rattle.theory.proofs.Sums.{sum-cong, max-cong}
 use Rattle.analysis.proofs.Windows.{limited-work}
 
 -- a reach as a lane has it tells the same, for the releases and offsets of an analysis
@@ -145,7 +144,7 @@ module _ (s : Task-set) (o : Order) (checked : Checked s) (lawful : Lawful s o) 
   -- the blocking, as the lanes have it
   pub blocking-lanes : (a : ℕ) → a ≤ 60000 → blocking s o i a ≡ lanes-block ls a
   blocking-lanes a ha =
-      max-same (task-count s) (λ j. cond (eqb j i) 0 (cond (o .ahead (job i (pos a)) (job j (negsuc 0))) (task-at s j .cost - 1) 0)) (λ j. cond (ltb (a + lane-at ls j .lead + 1) 100000) (lane-at ls j .cost - 1) 0) (λ j h. each j h (eqb j i) refl)
+      max-cong (task-count s) (λ j. cond (eqb j i) 0 (cond (o .ahead (job i (pos a)) (job j (negsuc 0))) (task-at s j .cost - 1) 0)) (λ j. cond (ltb (a + lane-at ls j .lead + 1) 100000) (lane-at ls j .cost - 1) 0) (λ j h. each j h (eqb j i) refl)
       ∙ ap (λ n. max-below n (λ j. cond (ltb (a + lane-at ls j .lead + 1) 100000) (lane-at ls j .cost - 1) 0)) (sym (made .long))
     where
       none : (b : Bool) (c : ℕ) → c ≡ 0 → cond b (c - 1) 0 ≡ 0

@@ -18,8 +18,7 @@ use Rattle.analysis.specs.declared.lanes.Lane.{Lane}
 use Rattle.analysis.specs.declared.window.Own.{Own}
 use Rattle.table.specs.declared.kinds.Mode.{Mode}
 use Rattle.table.specs.declared.kinds.Mode.the-variants.{NonPreemptive, Preemptive}
-use Rattle.theory.proofs.Sums.{sum-mono, sum-cong}
-use Rattle.theory.proofs.OneMore.{max-same}
+use Rattle.theory.proofs.Sums.{sum-mono, sum-cong, max-cong}
 use Rattle.analysis.proofs.Growth.{div-mono, work-mono}
 
 -- the first number that covers its own work is the least solution
@@ -47,7 +46,7 @@ module _ (a : ℕ) (ls : List Lane) where
   pub limited-block : (b : ℕ) → lanes-block (map (limited a) ls) b ≡ lanes-block ls b
   limited-block b =
       ap (λ n. max-below n (λ j. cond (ltb (b + lane-at (map (limited a) ls) j .lead + 1) 100000) (lane-at (map (limited a) ls) j .cost - 1) 0)) (length-map ls (limited a))
-      ∙ max-same (length ls) (λ j. cond (ltb (b + lane-at (map (limited a) ls) j .lead + 1) 100000) (lane-at (map (limited a) ls) j .cost - 1) 0) (λ j. cond (ltb (b + lane-at ls j .lead + 1) 100000) (lane-at ls j .cost - 1) 0) (λ j h. ap (λ (l : Lane). cond (ltb (b + l .lead + 1) 100000) (l .cost - 1) 0) (limited-at j h))
+      ∙ max-cong (length ls) (λ j. cond (ltb (b + lane-at (map (limited a) ls) j .lead + 1) 100000) (lane-at (map (limited a) ls) j .cost - 1) 0) (λ j. cond (ltb (b + lane-at ls j .lead + 1) 100000) (lane-at ls j .cost - 1) 0) (λ j h. ap (λ (l : Lane). cond (ltb (b + l .lead + 1) 100000) (l .cost - 1) 0) (limited-at j h))
 
 -- setting lanes twice is setting them once
 pub limited-twice : (a b : ℕ) (ls : List Lane) → map (limited b) (map (limited a) ls) ≡ map (limited b) ls

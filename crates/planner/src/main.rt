@@ -1,42 +1,13 @@
 //! Reads a table file from standard input and prints its report, or why it is refused.
 use analysis::Row;
+use console::INPUT_BYTES;
+use console::front;
+use console::print_refusal;
+use console::read_input;
 use planning::plan;
 use report::OUTPUT_BYTES;
 use std::io;
-use std::io::Read;
 use std::io::Write;
-use table::Refusal;
-
-// The longest table file has 440 bytes; one more shows that something follows.
-const INPUT_BYTES: usize = 441;
-
-fn read_input(rt: &LibcRuntime, buffer: &mut [u8]) -> io::Result<usize> {
-    let mut filled = 0;
-    for _ in 0..INPUT_BYTES {
-        if filled >= buffer.len() {
-            break;
-        }
-        let got = rt.stdin().read(&mut buffer[filled..])?;
-        if got == 0 {
-            break;
-        }
-        filled += got;
-    }
-    Ok(filled)
-}
-
-fn print_refusal(rt: &LibcRuntime, refusal: Refusal) -> io::Result<()> {
-    let number = refusal.number();
-    match refusal.place() {
-        Some(place) => println!(rt, "refused {number} {place}"),
-        None => println!(rt, "refused {number} -"),
-    }
-}
-
-// The first bytes; all of them where there are fewer.
-fn front(bytes: &[u8], len: usize) -> &[u8] {
-    &bytes[0..len.min(bytes.len())]
-}
 
 fn answer(rt: &LibcRuntime, input: &[u8]) -> io::Result<()> {
     let mut rows = [Row {

@@ -1,8 +1,7 @@
 -- Sums and maxima below a number, one more at a time, as a loop makes them.
-use mathlib.Core.Path.{_≡_, refl, ap₂}
-use Prim.Native.Nat.{ℕ, zero, suc, _+_, _<_, max}
+use mathlib.Core.Path.{_≡_, refl}
+use Prim.Native.Nat.{ℕ, _+_, max}
 use native.Mathlib.Numerals.{add-one}
-use native.Mathlib.Omega.{arith}
 use Rattle.theory.specs.Sums.{sum-below, max-below}
 
 pub sum-more : (f : ℕ → ℕ) (n : ℕ) → sum-below (n + 1) f ≡ sum-below n f + f n
@@ -20,8 +19,3 @@ max-more f n = rw add-one
 pub max-none : (f : ℕ → ℕ) → max-below 0 f ≡ 0
 unfolding max-below
 max-none f = refl
-
-pub max-same : (n : ℕ) (f g : ℕ → ℕ) → ((j : ℕ) → j < n → f j ≡ g j) → max-below n f ≡ max-below n g
-unfolding max-below
-max-same zero f g h = refl
-max-same (suc n) f g h = ap₂ max (max-same n f g (λ j k. h j (omega arith))) (h n (omega arith))
