@@ -5,3 +5,4 @@ pub mod Best
 pub mod Own
 pub mod Reaches
 pub mod Busy
+pub mod Analysed
