@@ -13,6 +13,7 @@ use Rattle.theory.specs.Worst.{Worst}
 use Rattle.theory.specs.Guarantee.{Admitted-by}
 use Rattle.priority.specs.Ordering.{rank-in, level-order}
 use Rattle.priority.specs.Assignment.{level-at, Fits, Filled}
+use Rattle.priority.specs.Steps.{In-time}
 use Rattle.priority.proofs.Pointwise.{Alike, alike-self, alike-back}
 use Rattle.priority.proofs.Demand.{Fewer, Alone}
 use Rattle.priority.proofs.Shorter.{Same-sides, same-worst, sides-back, sides-count}
@@ -69,11 +70,11 @@ module _ (t u : Task-set) (alike : Alike t u) (k i : ℕ) (checked : Checked u) 
       back j lt h (inl b) = absurd (omega (arith, placed j lt .0 b))
       back j lt h (inr b) = b
 
-  pub fits-yes : (L r a : ℕ) → Worst u (fixed-order u) L i r a → r ≤ task-at u i .deadline → Fits t L k i
-  fits-yes L r a w low q b v = let x = same-worst t u (level-at t k i) (rank-in u) i alike sides L q b v in omega (arith, w .longest b q (x .inside) (x .given), alike .deadline i)
+  pub time-fits : (L : ℕ) → In-time u L i → Fits t L k i
+  time-fits L all q b v = omega (arith, alike .deadline i, all q b (same-worst t u (level-at t k i) (rank-in u) i alike sides L q b v))
 
-  pub fits-worst : (L r a : ℕ) → Worst u (fixed-order u) L i r a → Fits t L k i → r ≤ task-at u i .deadline
-  fits-worst L r a w fits = omega (arith, alike .deadline i, fits r a (same-worst u t (rank-in u) (level-at t k i) i (alike-back t u alike) (sides-count (task-count t) (task-count u) (rank-in u) (level-at t k i) i (alike .count) (sides-back (task-count t) (level-at t k i) (rank-in u) i sides)) L r a w))
+  pub fits-time : (L : ℕ) → Fits t L k i → In-time u L i
+  fits-time L fits r a w = omega (arith, alike .deadline i, fits r a (same-worst u t (rank-in u) (level-at t k i) i (alike-back t u alike) (sides-count (task-count t) (task-count u) (rank-in u) (level-at t k i) i (alike .count) (sides-back (task-count t) (level-at t k i) (rank-in u) i sides)) L r a w))
 
 -- whether a task fits at rank k depends on which tasks are placed behind k alone
 pub fits-moved : (t u : Task-set) → Alike t u → (k i L : ℕ) → Same-placed k t u → Fits t L k i → Fits u L k i
@@ -98,4 +99,4 @@ fits-moved t u alike k i L placed fits r a w = omega (arith, alike .deadline i, 
 
 -- an order filled by the rule is admitted
 pub filled-admitted : (t : Task-set) (L : ℕ) → Checked t → Filled t L 0 → Admitted-by t (fixed-order t) L
-filled-admitted t L checked filled i r a here w = fits-worst t t (alike-self t) (rank-in t i) i checked here refl (λ j lt. (λ h. h, λ h. h)) L r a w (filled i here (task-ranges t checked i here .rank-low) .0)
+filled-admitted t L checked filled i r a here w = fits-time t t (alike-self t) (rank-in t i) i checked here refl (λ j lt. (λ h. h, λ h. h)) L (filled i here (task-ranges t checked i here .rank-low) .0) r a w

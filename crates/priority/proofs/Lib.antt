@@ -5,3 +5,5 @@ pub mod Lawful
 pub mod Ranked
 pub mod Fitting
 pub mod InVain
+pub mod Exchanging
+pub mod Placing

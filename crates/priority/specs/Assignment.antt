@@ -7,6 +7,8 @@ use lib.Dec.{eqb, ltb}
 use Rattle.std.specs.declared.result.Result.{Result}
 use Rattle.std.specs.declared.result.Result.the-variants.{Ok, Err}
 use Rattle.table.specs.Rules.{Task-set, task-at, task-count}
+use Rattle.table.specs.Model.{content}
+use Rattle.table.specs.declared.checked.Table.{Table}
 use Rattle.table.specs.declared.refusal.Refusal.{Refusal}
 use Rattle.table.specs.declared.refusal.Refusal.the-variants.{NoBusyPeriod, RankUnfilled}
 use Rattle.policy.specs.Orders.{fixed-order}
@@ -51,3 +53,8 @@ pub record Unfilled (s : Task-set) (L k : ℕ) : Type 0 where
 -- why the assignment refuses, in checking order
 abbrev pub Unassigned : Task-set → Refusal → Type 0
 Unassigned s e = ((e ≡ NoBusyPeriod) × Overloaded s) ⊎ ((L : ℕ) × (k : ℕ) × (e ≡ RankUnfilled k) × (L ≤ longest-busy-period) × Busy-period s L × Unfilled s L k)
+
+-- the place holds the assigned order, or what it held before the refusal
+abbrev pub Outcome : {X : Type 0} → Task-set → Table → Table → Result X Refusal → Type 0
+Outcome s before after (Ok x) = (L : ℕ) × (L ≤ longest-busy-period) × Busy-period s L × Assigned s (content after) L
+Outcome s before after (Err e) = (after ≡ before) × Unassigned s e
