@@ -12,7 +12,7 @@ use Rattle.priority.specs.Ordering.{Ordering-of, rank-in}
 use Rattle.priority.specs.Assignment.{Fits, Takes, Filled, Stuck}
 use Rattle.priority.specs.Exchange.{exchanged, with-exchanged}
 use Rattle.priority.specs.Steps.{In-time}
-use Rattle.priority.proofs.Pointwise.{Alike, alike-from, alike-back}
+use Rattle.priority.proofs.Pointwise.{Alike, alike-from, alike-back, same-busy}
 use Rattle.priority.proofs.Fitting.{Same-placed, time-fits, fits-time, fits-moved}
 use Rattle.priority.proofs.Exchanging.{exchange-checked, exchange-ordering, rank-exchanged, exchanged-first, exchanged-behind, exchanged-low}
 
@@ -66,6 +66,12 @@ module _ (t : Task-set) (checked : Checked t) (k i : ℕ) (here : i < task-count
 
     pub put-unfit : (L : ℕ) → (In-time u L i → ⊥) → Fits t L k i → ⊥
     put-unfit L late fits = late (fits-time t u alike-u k i (order-u .ranks) here at-k (placed k (omega arith)) L fits)
+
+    pub put-busy : (L : ℕ) → Busy-period t L → Busy-period u L
+    put-busy L busy = same-busy t u L alike-u busy
+
+    pub put-known : i < task-count u
+    put-known = omega (arith, alike-u .count)
 
     -- the ranks after k - 1 are filled by the rule, where those after k were and i is the highest-numbered task left that fits
     pub put-filled : (L : ℕ) → Fits t L k i → ((j : ℕ) → i < j → j < task-count t → rank-in t j ≤ k → Fits t L k j → ⊥) → Filled t L k → Filled u L (k - 1)

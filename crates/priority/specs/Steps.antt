@@ -26,15 +26,25 @@ Judged-busy s L = (L ≤ longest-busy-period) × Busy-period s L
 abbrev pub In-time : Task-set → ℕ → ℕ → Type 0
 In-time t L i = (r a : ℕ) → Worst t (fixed-order t) L i r a → r ≤ task-at t i .deadline
 
--- task i put at rank k: none where it is placed behind k already or does not fit
+-- task i, if it is not placed behind k, put at rank k
+abbrev pub Put : Task-set → ℕ → ℕ → Option Table → Type 0
+Put t k i None = Unit {0}
+Put t k i (Some u) = (rank-in t i ≤ k) × (content u ≡ with-exchanged (rank-in t i) k t)
+
+-- it fits there, or is placed behind k or does not fit
 abbrev pub Tried : Task-set → ℕ → ℕ → ℕ → Option Table → Type 0
 Tried t L k i None = rank-in t i ≤ k → Fits t L k i → ⊥
-Tried t L k i (Some u) = (rank-in t i ≤ k) × (content u ≡ with-exchanged (rank-in t i) k t) × Fits t L k i
+Tried t L k i (Some u) = Fits t L k i
 
--- rank k filled: none where the assignment is stuck there
+-- the tasks in another order
+abbrev pub Reordered : Task-set → Option Table → Type 0
+Reordered t None = Unit {0}
+Reordered t (Some u) = Ordering-of t (content u)
+
+-- rank k is filled by the rule, or the assignment is stuck there
 abbrev pub Taken : Task-set → ℕ → ℕ → Option Table → Type 0
 Taken t L k None = Stuck t L k
-Taken t L k (Some u) = Ordering-of t (content u) × (Filled t L k → Filled (content u) L (k - 1))
+Taken t L k (Some u) = Filled t L k → Filled (content u) L (k - 1)
 
 -- all ranks filled, or the rank where the assignment is stuck
 abbrev pub Ranked : Task-set → ℕ → Result Table Refusal → Type 0
