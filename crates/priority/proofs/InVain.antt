@@ -13,9 +13,9 @@ use Rattle.theory.specs.Worst.{Worst}
 use Rattle.theory.specs.Guarantee.{Late-by}
 use Rattle.theory.proofs.Existence.{response-exists}
 use Rattle.theory.proofs.WorstExists.{worst-exists}
-use Rattle.priority.specs.Ordering.{rank-in, level-order}
-use Rattle.priority.specs.Assignment.{level-at, Fits, Stuck}
-use Rattle.priority.proofs.Pointwise.{Alike, same-busy}
+use Rattle.priority.specs.Ordering.{Ordering-of, rank-in, level-order}
+use Rattle.priority.specs.Assignment.{level-at, Fits, Filled, Stuck, Unfilled}
+use Rattle.priority.proofs.Pointwise.{Alike, alike-back, alike-through, same-busy, ordering-alike}
 use Rattle.priority.proofs.Demand.{Fewer, Alone}
 use Rattle.priority.proofs.Shorter.{shorter}
 use Rattle.priority.proofs.Fitting.{ahead-low}
@@ -89,3 +89,14 @@ module _ (t u : Task-set) (alike : Alike t u) (L k : ℕ) (busy : Busy-period t 
               three : (task-at u i .deadline < r) ⊎ (r ≤ task-at u i .deadline) → Late-by u (fixed-order u) L
               three (inl late) = (i, r, a, omega (arith, alike .count), w, late)
               three (inr meets) = absurd (stuck i here left (last-fits i here most r a w meets))
+
+-- a rank that no task left fits, as a refusal tells it
+pub unfilled : (s : Task-set) (L k : ℕ) → Busy-period s L → 1 ≤ k → k ≤ task-count s → (t : Task-set) → Ordering-of s t → Filled t L k → Stuck t L k → Unfilled s L k
+unfilled s L k busy low high t ordering filled stuck = record {
+  low = low;
+  high = high;
+  placed = (t, ordering, filled, stuck);
+  in-vain = λ u other.
+    let there = ordering-alike s t ordering in
+    stuck-late t u (alike-through t s u (alike-back s t there) (ordering-alike s u other)) L k (same-busy s t L there busy) (ordering .ranks) (other .ranks) low (omega (arith, there .count)) stuck;
+}

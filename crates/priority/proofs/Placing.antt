@@ -12,12 +12,9 @@ use Rattle.priority.specs.Ordering.{Ordering-of, rank-in}
 use Rattle.priority.specs.Assignment.{Fits, Takes, Filled, Stuck}
 use Rattle.priority.specs.Exchange.{exchanged, with-exchanged}
 use Rattle.priority.specs.Steps.{In-time}
-use Rattle.priority.proofs.Pointwise.{Alike, alike-from, alike-back, same-busy}
+use Rattle.priority.proofs.Pointwise.{Alike, alike-back, same-busy, ordering-alike}
 use Rattle.priority.proofs.Fitting.{Same-placed, time-fits, fits-time, fits-moved}
 use Rattle.priority.proofs.Exchanging.{exchange-checked, exchange-ordering, rank-exchanged, exchanged-first, exchanged-behind, exchanged-low}
-
-pub ordering-alike : (s t : Task-set) → Ordering-of s t → Alike s t
-ordering-alike s t o = alike-from s t (sym (o .mode)) (sym (o .tasks))
 
 -- an order of an order
 pub ordering-more : (s t u : Task-set) → Ordering-of s t → Ordering-of t u → Ordering-of s u

@@ -50,3 +50,9 @@ same-busy s t L a busy = subst (λ W. Least-solution 1 W L) (λ k v. same v k) b
   where
     same : (v : ℕ) → load s v ≡ load t v
     same v = sum-cong (task-count s) (λ j. ceil-div v (task-at s j .period) * task-at s j .cost) (λ j. ceil-div v (task-at t j .period) * task-at t j .cost) (λ j lt. ap (λ T. ceil-div v T * task-at s j .cost) (a .period j) ∙ ap (λ C. ceil-div v (task-at t j .period) * C) (a .cost j)) ∙ ap (λ n. sum-below n (λ j. ceil-div v (task-at t j .period) * task-at t j .cost)) (a .count)
+
+pub alike-through : (s t u : Task-set) → Alike s t → Alike t u → Alike s u
+alike-through s t u a b = record { mode = a .mode ∙ b .mode; count = a .count ∙ b .count; cost = λ j. a .cost j ∙ b .cost j; period = λ j. a .period j ∙ b .period j; deadline = λ j. a .deadline j ∙ b .deadline j }
+
+pub ordering-alike : (s t : Task-set) → Ordering-of s t → Alike s t
+ordering-alike s t o = alike-from s t (sym (o .mode)) (sym (o .tasks))
