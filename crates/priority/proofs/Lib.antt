@@ -8,3 +8,4 @@ pub mod InVain
 pub mod Exchanging
 pub mod Placing
 pub mod Rooms
+pub mod Unique
