@@ -2,6 +2,8 @@
 pub mod assigning;
 pub mod facts;
 mod ranking;
+#[cfg(test)]
+mod tests;
 
 pub use assigning::assign_priorities;
 pub use facts::assignment_is_unique;
