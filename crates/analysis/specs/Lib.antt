@@ -6,3 +6,4 @@ pub mod Own
 pub mod Reaches
 pub mod Busy
 pub mod Promised
+pub mod Analysed

@@ -7,6 +7,7 @@ ghost use Rattle.table.specs.Model.{content};
 ghost use Rattle.table.specs.Rules.{task-at, task-count};
 ghost use Rattle.policy.specs.Laws.{Small-reach};
 ghost use Rattle.theory.specs.BusyPeriod.{Busy-period};
+ghost use Rattle.analysis.specs.Analysed.{Analysed};
 ghost use Rattle.analysis.specs.Judged.{Judged, Row-of, Verdict-of, row-at};
 ghost use Rattle.analysis.specs.Lanes.{lane-at};
 ghost use Rattle.analysis.specs.Promised.{Rows-bound, Rows-attained, Verdict-exact};
@@ -139,4 +140,18 @@ pub fn judge<P: Policy>(policy: &P, table: &Table, rows: &mut [Row]) -> Result<J
         busy_period,
         verdict: verdict(&rows[0..count]),
     })
+}
+
+/// The row of one task of a table under a policy.
+/// Refused where the table has no such task, and then where there is no busy period of up to 60,000 ticks.
+pub fn analyse_task<P: Policy>(policy: &P, table: &Table, task: usize) -> Result<Row, Refusal>
+    ensures { λ r. ⌜ Analysed (content (now (table .entry))) (meaning (now (policy .entry)) (content (now (table .entry)))) task r ⌝ }
+{
+    if task >= table.count() {
+        return Err(Refusal::NoTaskToJudge { task });
+    }
+    let Some(busy_period) = busy_period(table) else {
+        return Err(Refusal::NoBusyPeriod);
+    };
+    Ok(row_of(policy, table, busy_period, task))
 }

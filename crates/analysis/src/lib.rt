@@ -7,6 +7,7 @@ pub mod window;
 
 pub use busy::LONGEST_BUSY_PERIOD;
 pub use busy::busy_period;
+pub use judging::analyse_task;
 pub use judging::judge;
 pub use rows::Judgement;
 pub use rows::Row;

@@ -1,0 +1,4 @@
+pub mod Ordering
+pub mod Assignment
+pub mod Exchange
+pub mod Steps
