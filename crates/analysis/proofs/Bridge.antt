@@ -2,7 +2,7 @@
 use mathlib.Core.Bool.{Bool, true, false, cond, _&&_, not}
 use mathlib.Core.List.{List, map}
 use mathlib.Core.Path.{_≡_, refl, sym, ap, ap₂, _∙_, subst}
-use Prim.Native.Nat.{ℕ, suc, _+_, _-_, _*_, _/_, _≤_, _<_, min, max}
+use Prim.Native.Nat.{ℕ, _+_, _-_, _*_, _/_, _≤_, _<_, min}
 use native.Mathlib.Omega.{arith}
 use native.Mathlib.Nat.{mul-zero}
 use Rattle.std.proofs.shelf.Ways.{tells}
@@ -10,7 +10,7 @@ use Rattle.std.proofs.shelf.Signed.{ints}
 use lib.Dec.{ltb, leb, eqb}
 use lib.IntN.{ℤ, pos, negsuc, _+ℤ_, natAbs}
 use lib.Signed.{leZ, _≤ℤ_}
-use lib.ListN.{length, length-map}
+use lib.ListN.{length}
 use Rattle.table.specs.Rules.{Task-set, Checked, task-at, task-count}
 use Rattle.table.proofs.Ranges.{task-ranges, count-ranges}
 use Rattle.policy.specs.Order.{Order, job, reaches}
@@ -21,8 +21,8 @@ use Rattle.policy.specs.declared.job.Reach.{Reach}
 use Rattle.policy.specs.declared.job.Reach.the-variants.{Always, Never, Within}
 use Rattle.theory.specs.BusyPeriod.{ceil-div}
 use Rattle.theory.specs.Response.{jobs-ahead, work-ahead, blocking}
-use Rattle.theory.specs.Sums.{sum-below, max-below, count-below}
-use Rattle.analysis.specs.Lanes.{lane-at, lane-jobs, lanes-work, lane-limit, limited, lanes-block, Sound, Sound-lane}
+use Rattle.theory.specs.Sums.{sum-below, max-below}
+use Rattle.analysis.specs.Lanes.{lane-at, lane-jobs, lanes-work, limited, lanes-block, Sound, Sound-lane}
 use Rattle.analysis.specs.Reaches.{lead-of, Lane-to}
 use Rattle.analysis.specs.declared.lanes.Lane.{Lane}
 use Rattle.analysis.proofs.Counting.{count-same, count-both}

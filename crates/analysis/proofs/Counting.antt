@@ -2,7 +2,7 @@
 use mathlib.Core.Bool.{Bool, true, false, cond, _&&_}
 use mathlib.Core.Path.{_≡_, refl, sym, ap, ap₂, _∙_}
 use Prim.Native.Nat.{ℕ, zero, suc, _+_, _-_, _*_, _/_, _≤_, _<_, min}
-use native.Mathlib.Nat.{div-lt-iff-lt-mul, mul-le-mul, mul-le-mul-right, le-div-iff-mul-le, suc-mul}
+use native.Mathlib.Nat.{div-lt-iff-lt-mul, mul-le-mul, le-div-iff-mul-le, suc-mul}
 use native.Mathlib.Omega.{arith}
 use Rattle.std.proofs.shelf.Ways.{tells}
 use lib.Dec.{ltb, leb}

@@ -1,33 +1,28 @@
 -- What the lanes answer is what the definitions say: the busy period covers every window, and a response over lanes is the response.
-use mathlib.Core.Bool.{Bool, true, false, cond}
-use mathlib.Core.List.{List, map}
-use mathlib.Core.Logic.{_⊎_, inl, inr}
+use mathlib.Core.Bool.{Bool, true, false}
+use mathlib.Core.List.{List}
 use mathlib.Core.Path.{_≡_, refl, sym, ap, ap₂, _∙_, subst}
-use Prim.Native.Nat.{ℕ, suc, _+_, _-_, _*_, _/_, _≤_, _<_, min, max}
-use native.Mathlib.Nat.{mul-le-mul-right, mul-le-mul, le-antisymm, le-div-iff-mul-le, div-mul-le-self, suc-mul, add-mul}
+use Prim.Native.Nat.{ℕ, suc, _+_, _-_, _/_, _≤_, _<_}
+use native.Mathlib.Nat.{le-div-iff-mul-le, div-mul-le-self, add-mul}
 use native.Mathlib.Omega.{arith}
 use Rattle.std.proofs.shelf.Ways.{tells}
-use lib.Dec.{ltb, leb, eqb}
-use lib.ListN.{length}
+use lib.Dec.{ltb, leb}
 use Rattle.table.specs.Rules.{Task-set, Checked, task-at, task-count}
 use Rattle.table.specs.declared.kinds.Mode.{Mode}
 use Rattle.table.specs.declared.kinds.Mode.the-variants.{NonPreemptive, Preemptive}
-use Rattle.table.proofs.Ranges.{task-ranges}
 use Rattle.policy.specs.Order.{Order}
 use Rattle.policy.specs.Laws.{Lawful}
-use Rattle.theory.specs.BusyPeriod.{ceil-div, load, Busy-period}
+use Rattle.theory.specs.BusyPeriod.{ceil-div, Busy-period}
 use Rattle.theory.specs.LeastSolution.{Least-solution}
-use Rattle.theory.specs.Response.{work-ahead, blocking, until-finish, until-start, Response-in, Response-at}
-use Rattle.theory.specs.Sums.{sum-below, max-below}
+use Rattle.theory.specs.Response.{until-finish, until-start, Response-in, Response-at}
 use Rattle.theory.specs.Worst.{Worst}
 use Rattle.theory.proofs.Existence.{finish-covered, start-covered}
 use Rattle.theory.proofs.WorstExists.{one-response}
 use Rattle.analysis.specs.Best.{Best}
-use Rattle.analysis.specs.Lanes.{lane-at, lane-jobs, lanes-work, lane-limit, limited, lanes-block}
-use Rattle.analysis.specs.Own.{work-in, own-work, window-work, response-in, Lane-response}
+use Rattle.analysis.specs.Own.{work-in, window-work, response-in, Lane-response}
 use Rattle.analysis.specs.declared.lanes.Lane.{Lane}
 use Rattle.analysis.specs.declared.window.Own.{Own}
-use Rattle.analysis.proofs.Bridge.{Made, made-sound, work-lanes, blocking-lanes}
+use Rattle.analysis.proofs.Bridge.{Made, work-lanes, blocking-lanes}
 use Rattle.analysis.proofs.Windows.{least-upto}
 
 -- the job at an offset inside the busy period is one of those that it counts

@@ -1,14 +1,13 @@
 -- Lanes that count every release ask for the load of the table.
 use mathlib.Core.List.{List}
-use mathlib.Core.Path.{_≡_, refl, sym, ap, ap₂, _∙_, subst}
-use Prim.Native.Nat.{ℕ, _+_, _*_, _≤_, _<_, min}
+use mathlib.Core.Path.{_≡_, sym, ap, ap₂, subst}
+use Prim.Native.Nat.{ℕ, _+_, _*_, _≤_, _<_}
 use native.Mathlib.Omega.{arith}
 use native.Mathlib.Nat.{mul-le-mul}
 use lib.ListN.{length}
 use Rattle.table.specs.Rules.{Task-set, Checked, task-at, task-count}
 use Rattle.table.proofs.Ranges.{task-ranges, count-ranges}
 use Rattle.theory.specs.BusyPeriod.{ceil-div, load, Busy-period, Overloaded}
-use Rattle.theory.specs.LeastSolution.{Least-solution}
 use Rattle.theory.specs.Sums.{sum-below}
 use Rattle.analysis.specs.Busy.{Full-lane}
 use Rattle.analysis.specs.Lanes.{lane-at, lane-jobs, lanes-work, Sound, Sound-lane}

@@ -1,13 +1,12 @@
 -- The row of one task: what its lanes and its own part have to be, and what comes of them.
 use mathlib.Core.List.{List}
-use mathlib.Core.Path.{_≡_, sym, ap, subst, _∙_}
+use mathlib.Core.Path.{_≡_, sym, subst, _∙_}
 use Prim.Native.Nat.{ℕ, _-_, _≤_, _<_}
 use native.Mathlib.Omega.{arith}
 use lib.ListN.{length, take}
 use Rattle.table.specs.Content.{sporadic}
 use Rattle.table.specs.Model.{content}
 use Rattle.table.specs.Rules.{task-at, task-count}
-use Rattle.table.specs.Sporadic.{Sporadic}
 use Rattle.table.proofs.Ranges.{task-ranges}
 use Rattle.table.proofs.Tables.{table-checked}
 use Rattle.table.specs.declared.checked.Table.{Table}

@@ -1,14 +1,10 @@
 -- From a given judgement to what it promises of every run.
-use Prim.Native.Nat.{ℕ, _+_, _≤_, _<_}
 use mathlib.Core.List.{List}
-use mathlib.Core.Path.{_≡_, sym, subst}
-use native.Mathlib.Nat.{le-antisymm}
 use native.Mathlib.Omega.{arith}
-use Rattle.table.specs.Rules.{Task-set, Checked, task-at, task-count}
+use Rattle.table.specs.Rules.{Task-set, Checked, task-count}
 use Rattle.policy.specs.Order.{Order}
 use Rattle.policy.specs.Laws.{Lawful}
-use Rattle.theory.specs.Guarantee.{after, Admitted-by, Late-by, Misses}
-use Rattle.theory.specs.Worst.{Worst}
+use Rattle.theory.specs.Guarantee.{Admitted-by, Late-by}
 use Rattle.theory.proofs.Guaranteed.{guaranteed}
 use Rattle.theory.proofs.MachineFacts.{facts-after}
 use Rattle.analysis.specs.Judged.{Given, Verdict-of, row-at}

@@ -2,14 +2,13 @@
 use mathlib.Core.List.{List, [], _∷_, map}
 use mathlib.Core.Bool.{Bool, true, false, cond}
 use mathlib.Core.Path.{_≡_, refl, sym, ap, ap₂, _∙_, subst}
-use Prim.Native.Nat.{ℕ, _+_, _-_, _*_, _/_, _≤_, _<_, min}
+use Prim.Native.Nat.{ℕ, _+_, _-_, _*_, _/_, _≤_, _<_}
 use native.Mathlib.Nat.{mul-le-mul-right, mul-le-mul}
 use native.Mathlib.Omega.{arith}
 use Rattle.std.proofs.shelf.Ways.{tells}
 use Rattle.std.proofs.shelf.Lists.{getD-map}
 use lib.Dec.{ltb, leb}
 use lib.ListN.{length, length-map}
-use Rattle.theory.specs.BusyPeriod.{ceil-div}
 use Rattle.theory.specs.LeastSolution.{Least-solution}
 use Rattle.theory.specs.Sums.{sum-below, max-below}
 use Rattle.analysis.specs.Lanes.{no-lane, lane-at, lane-jobs, lanes-work, lane-limit, limited, lanes-block, Sound, Sound-lane}

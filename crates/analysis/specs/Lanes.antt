@@ -1,7 +1,7 @@
 -- The other tasks as one task's analysis sees them: each a lane of jobs, of which a number can come ahead of the job at an offset.
 use Prim.Native.Nat.{ℕ, _+_, _-_, _*_, _/_, min, _≤_, _<_}
-use mathlib.Core.Bool.{Bool, cond}
-use mathlib.Core.List.{List, map}
+use mathlib.Core.Bool.{cond}
+use mathlib.Core.List.{List}
 use lib.Dec.{ltb}
 use lib.ListN.{length, getD}
 use Rattle.theory.specs.BusyPeriod.{ceil-div}

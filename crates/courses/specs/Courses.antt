@@ -8,7 +8,7 @@ use Rattle.std.specs.declared.option.Option.{Option}
 use Rattle.std.specs.declared.option.Option.the-variants.{Some, None}
 use Rattle.std.specs.declared.result.Result.{Result}
 use Rattle.std.specs.declared.result.Result.the-variants.{Ok, Err}
-use Rattle.table.specs.Rules.{Task-set, task-at, task-count}
+use Rattle.table.specs.Rules.{Task-set, task-count}
 use Rattle.table.specs.declared.refusal.Refusal.{Refusal}
 use Rattle.table.specs.declared.refusal.Refusal.the-variants.{NoTaskToJudge}
 use Rattle.policy.specs.Order.{Order}

@@ -11,8 +11,6 @@ use Rattle.policy.specs.Order.{reaches}
 use Rattle.policy.specs.declared.job.Reach.the-variants.{Always, Never}
 use Rattle.policy.proofs.Lawfulness.{lawful}
 use Rattle.policy.proofs.Different.{differ}
-use Prim.Native.Nat.{ℕ}
-use lib.IntN.{ℤ}
 use lib.Dec.{eqb, ltb}
 use lib.Signed.{ltZ}
 use mathlib.Core.Bool.{Bool, true, false, cond}

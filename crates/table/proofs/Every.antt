@@ -12,7 +12,6 @@ use Rattle.table.specs.Content.{sporadic}
 use Rattle.table.specs.Rules.{rank-free, ranks-differ, follows-rules, band-in-range}
 use Rattle.table.specs.declared.task.Task.{Task}
 use Rattle.table.specs.declared.kinds.PolicyCode.{PolicyCode}
-use lib.Seq.{take-all}
 use Rattle.std.proofs.shelf.Ways.{tells}
 use native.Mathlib.Omega.{arith}
 use Rattle.table.specs.Sporadic.{Sporadic, every, name-byte, name-in-range, task-in-range, within}

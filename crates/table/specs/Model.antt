@@ -1,6 +1,6 @@
 -- What a checked table says, and when a table can be made of given parts.
 use Prim.Native.Nat.{ℕ, _<_, _≤_}
-use mathlib.Core.List.{List, map, [], _∷_}
+use mathlib.Core.List.{map, [], _∷_}
 use mathlib.Core.Bool.{true, false}
 use mathlib.Core.Path.{_≡_}
 use lib.Chars.{codes}
@@ -12,8 +12,8 @@ use Rattle.table.specs.Rules.{Task-set, follows-rules, task-at, task-count}
 use Rattle.table.specs.Content.{sporadic}
 use Rattle.table.specs.declared.checked.Table.{Table}
 use Rattle.table.specs.declared.task.Task.{Task}
-use Rattle.table.specs.declared.kinds.Mode.the-variants.{NonPreemptive, Preemptive}
-use Rattle.table.specs.declared.kinds.PolicyCode.the-variants.{Fixed, Deadline, Arrival, Bands}
+use Rattle.table.specs.declared.kinds.Mode.the-variants.{Preemptive}
+use Rattle.table.specs.declared.kinds.PolicyCode.the-variants.{Fixed}
 
 abbrev pub content : Table → Task-set
 content t = record { policy = t .policy; mode = t .mode; band = t .band; tasks = map sporadic (take (t .count) (t .tasks)) }

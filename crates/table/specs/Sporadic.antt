@@ -1,8 +1,8 @@
 -- A sporadic task as the rules speak of it, and the range of each of its fields.
 use Prim.Native.Nat.{ℕ, _*_}
-use mathlib.Core.Bool.{Bool, true, false, _&&_, _||_}
+use mathlib.Core.Bool.{Bool, true, _&&_, _||_}
 use mathlib.Core.List.{List, [], _∷_}
-use lib.Dec.{leb, eqb}
+use lib.Dec.{leb}
 use lib.ListN.{length}
 
 -- worst-case execution time C, least distance T of releases, relative deadline D, rank, and the letters of the name

@@ -1,13 +1,12 @@
 -- A field that was read tells which bytes stand at its place, and these bytes give the field.
 use mathlib.Core.Path.{_≡_, refl, sym, ap, subst, _∙_}
-use mathlib.Core.Bool.{Bool, true, false, cond, _&&_}
+use mathlib.Core.Bool.{Bool, true}
 use mathlib.Core.List.{List, [], _∷_, _++_}
 use Prim.Native.Nat.{ℕ, zero, suc, _+_, _*_, _/_, _%_, _<_}
 use native.Mathlib.Nat.{add-zero, div-add-mod'}
 use native.Mathlib.Omega.{arith}
 use lib.Dec.{ltb}
 use lib.ListN.{length, getD, drop, length-drop}
-use lib.Seq.{getD-drop}
 use Rattle.std.proofs.shelf.Lists.{drop-more}
 use Rattle.std.proofs.shelf.Bits.{div-mul-add, mod-mul-add}
 use Rattle.std.proofs.shelf.Tests.{lt-ltb, cond-true}
@@ -17,7 +16,7 @@ use Rattle.table.specs.Sporadic.{every, name-byte}
 use Rattle.table.specs.declared.refusal.Refusal.{Refusal}
 use Rattle.table.specs.declared.refusal.Refusal.the-variants.{Ended, NameByte}
 use Rattle.tablefile.specs.Fields.{Read, _then_, tested, byte-at, number-at, letter-at, letters-at}
-use Rattle.tablefile.proofs.Inversion.{same-value, then-ok, byte-ok, number-ok, tested-byte}
+use Rattle.tablefile.proofs.Inversion.{same-value, then-ok, tested-byte}
 
 -- a field that passes its test
 pub pass : (r : Read ℕ) (test : ℕ → Bool) (why : Refusal) (x : ℕ) → r ≡ Ok x → test x ≡ true → (r then λ y. tested (test y) why y) ≡ Ok x

@@ -1,11 +1,11 @@
 -- The bytes determine the table, and the table the bytes.
 use mathlib.Core.Path.{_≡_, refl, sym, ap, subst, _∙_}
-use mathlib.Core.Bool.{Bool, true, false, _&&_}
+use mathlib.Core.Bool.{true, false}
 use mathlib.Core.List.{List, [], _∷_, _++_, map}
-use Prim.Native.Nat.{ℕ, _+_, _-_, _<_, _≤_}
+use Prim.Native.Nat.{ℕ, _-_, _<_, _≤_}
 use native.Mathlib.Nat.{sub-zero}
 use lib.Dec.{leb}
-use lib.ListN.{length, getD, drop, take}
+use lib.ListN.{length, getD, take}
 use Rattle.std.proofs.shelf.Tests.{leb-true, both-ways}
 use Rattle.std.specs.Joined.{joined}
 use Rattle.std.specs.declared.result.Result.the-variants.{Ok, Err}

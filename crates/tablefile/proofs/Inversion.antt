@@ -1,17 +1,17 @@
 -- What a field that was read tells: where its value came from, and that it passed its test.
 use mathlib.Core.Path.{_≡_, refl, sym, ap, _∙_}
 use mathlib.Core.Bool.{Bool, true, false, cond}
-use mathlib.Core.List.{List, [], _∷_}
+use mathlib.Core.List.{List}
 use Prim.Native.Nat.{ℕ, _+_, _*_, _<_}
 use native.Mathlib.Omega.{arith}
-use lib.Dec.{ltb, eqb}
+use lib.Dec.{ltb}
 use lib.ListN.{length, getD}
 use Rattle.std.proofs.shelf.Tests.{ltb-true}
 use Rattle.std.specs.declared.option.Option.{Option}
 use Rattle.std.specs.declared.option.Option.the-variants.{Some, None}
 use Rattle.std.specs.declared.result.Result.the-variants.{Ok, Err}
 use Rattle.table.specs.declared.refusal.Refusal.{Refusal}
-use Rattle.table.specs.declared.refusal.Refusal.the-variants.{Ended, WrongMark, HeaderRange, TaskRange, RankTaken, NameByte, Trailing}
+use Rattle.table.specs.declared.refusal.Refusal.the-variants.{Ended}
 use Rattle.tablefile.specs.Fields.{Read, _then_, tested, known, byte-at, number-at}
 
 pub no-value : {X Y : Type 0} {x : X} {why : Refusal} → (let bad : Read X = Err why in bad ≡ Ok x) → Y

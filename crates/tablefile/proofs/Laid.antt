@@ -1,17 +1,17 @@
 -- Bytes that are laid out as the format says are read: the other way round.
-use mathlib.Core.Path.{_≡_, refl, sym, ap, subst, _∙_}
-use mathlib.Core.Bool.{Bool, true, false, _&&_}
+use mathlib.Core.Path.{_≡_, refl, sym, ap, _∙_}
+use mathlib.Core.Bool.{true}
 use mathlib.Core.List.{List, [], _∷_, _++_, append-assoc, append-nil}
-use Prim.Native.Nat.{ℕ, zero, suc, _+_, _/_, _%_}
+use Prim.Native.Nat.{ℕ, _+_, _/_, _%_}
 use native.Mathlib.Omega.{arith}
 use lib.Dec.{eqb}
 use lib.ListN.{length, drop, length-drop}
 use Rattle.std.proofs.shelf.Lists.{drop-drop, drop-at}
 use Rattle.std.proofs.shelf.Tests.{eq-eqb, and-parts}
 use Rattle.std.specs.Joined.{joined}
-use Rattle.std.specs.declared.option.Option.the-variants.{Some, None}
-use Rattle.std.specs.declared.result.Result.the-variants.{Ok, Err}
-use Rattle.table.proofs.Every.{and-true, and-left, and-right}
+use Rattle.std.specs.declared.option.Option.the-variants.{Some}
+use Rattle.std.specs.declared.result.Result.the-variants.{Ok}
+use Rattle.table.proofs.Every.{and-left, and-right}
 use Rattle.table.specs.Codes.{mode-code, policy-code, mode-coded, policy-coded}
 use Rattle.table.specs.Sporadic.{Sporadic, every, name-byte, within, task-in-range, cost-in-range, period-in-range, deadline-in-range, rank-in-range, name-in-range}
 use Rattle.table.specs.Rules.{band-in-range, rank-free, ranks-differ}
@@ -22,7 +22,7 @@ use Rattle.table.specs.declared.kinds.PolicyCode.the-variants.{Fixed, Deadline,
 use Rattle.table.specs.declared.refusal.Refusal.the-variants.{WrongMark, HeaderRange, TaskRange, RankTaken, Trailing}
 use Rattle.tablefile.specs.Fields.{Read, _then_, tested, known, byte-at, number-at, mark-at, policy-at, mode-at, count-at, band-at, cost-at, period-at, deadline-at, rank-at, name-length-at, name-at, letters-at, nothing-at}
 use Rattle.tablefile.specs.Format.{header-at, task-at, end-at, tasks-at}
-use Rattle.tablefile.specs.Layout.{two-bytes, task-bytes, end-bytes}
+use Rattle.tablefile.specs.Layout.{task-bytes, end-bytes}
 use Rattle.tablefile.specs.declared.records.HeaderFields.{HeaderFields}
 use Rattle.tablefile.proofs.Bytes.{pass, first-is, byte-back, number-back, letters-back}
 use Rattle.tablefile.proofs.Ranks.{ranks-front}

@@ -1,5 +1,5 @@
 -- Reading the tasks of a file, along a loop that stores them.
-use mathlib.Core.Path.{_≡_, refl, sym, ap, _∙_}
+use mathlib.Core.Path.{_≡_, sym, ap, _∙_}
 use mathlib.Core.List.{List, [], _∷_, _++_, map}
 use Prim.Native.Nat.{ℕ, suc, _+_, _-_, _<_}
 use native.Mathlib.Nat.{add-assoc, sub-zero}
@@ -11,7 +11,7 @@ use Rattle.table.specs.Content.{sporadic}
 use Rattle.table.specs.Sporadic.{Sporadic}
 use Rattle.table.specs.declared.refusal.Refusal.{Refusal}
 use Rattle.table.specs.declared.task.Task.{Task}
-use Rattle.tablefile.specs.Fields.{Read, _then_}
+use Rattle.tablefile.specs.Fields.{_then_}
 use Rattle.tablefile.specs.Format.{task-at, tasks-at}
 
 -- i of n tasks are stored, and the next stands at p

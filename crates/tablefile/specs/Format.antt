@@ -3,7 +3,7 @@
 use Prim.Native.Nat.{ℕ, zero, suc, _+_}
 use mathlib.Core.List.{List, [], _∷_, _++_}
 use lib.ListN.{length}
-use Rattle.std.specs.declared.result.Result.the-variants.{Ok, Err}
+use Rattle.std.specs.declared.result.Result.the-variants.{Ok}
 use Rattle.table.specs.Sporadic.{Sporadic}
 use Rattle.table.specs.Rules.{Task-set}
 use Rattle.tablefile.specs.Fields.{Read, _then_, mark-at, policy-at, mode-at, count-at, band-at, cost-at, period-at, deadline-at, rank-at, name-at, nothing-at}

@@ -27,19 +27,19 @@ module _ (s : Task-set) (checked : Checked s) (criterion : Criterion s) (i a : �
   within : (m : Mode) → s .mode ≡ m → (r : ℕ) → Response-in m s (deadline-order s) i a r → r ≤ task-at s i .deadline
   within Preemptive mode r (F, sol, e) =
       let ends : F ≤ a + task-at s i .deadline = least-under 1 (until-finish s (deadline-order s) i a) F (a + task-at s i .deadline) sol (until-finish-mono s (deadline-order s) checked (deadline-lawful s checked) i a here)
-            (finish-first s (deadline-order s) i a checked here) (omega (arith, task-ranges s checked i here .deadline-low)) (omega (arith, fits, work-due s checked i a here (a + task-at s i .deadline))) in
+      (finish-first s (deadline-order s) i a checked here) (omega (arith, task-ranges s checked i here .deadline-low)) (omega (arith, fits, work-due s checked i a here (a + task-at s i .deadline))) in
       omega (arith, own-fits)
   within NonPreemptive mode r (G, sol, e) =
       let begins : G ≤ (a + task-at s i .deadline) - task-at s i .cost = least-under 0 (until-start s (deadline-order s) i a) G ((a + task-at s i .deadline) - task-at s i .cost) sol (until-start-mono s (deadline-order s) checked (deadline-lawful s checked) i a here) (omega arith) (omega arith)
-            (omega (
-              arith,
-              fits,
-              own-fits,
-              ap (λ m. demand-blocking m s (a + task-at s i .deadline)) mode,
-              blocking-due s checked i a here,
-              work-due s checked i a here (suc ((a + task-at s i .deadline) - task-at s i .cost)),
-              add-mul 1 (a / task-at s i .period) (task-at s i .cost),
-            )) in
+      (omega (
+        arith,
+        fits,
+        own-fits,
+        ap (λ m. demand-blocking m s (a + task-at s i .deadline)) mode,
+        blocking-due s checked i a here,
+        work-due s checked i a here (suc ((a + task-at s i .deadline) - task-at s i .cost)),
+        add-mul 1 (a / task-at s i .period) (task-at s i .cost),
+      )) in
       omega (arith, own-fits)
 
 pub criterion-enough : (s : Task-set) (L : ℕ) → Checked s → Criterion s → Admitted-by s (deadline-order s) L

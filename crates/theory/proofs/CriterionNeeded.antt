@@ -68,8 +68,12 @@ module _ (s : Task-set) (o : Order) (checked : Checked s) (law : Lawful s o) (L 
 
       cost-more : task-at s p .cost + left s 1 ws ≤ left s 0 more
       unfolding total
-      cost-more = omega (arith, cond-true (leb 0 0) (task-at s p .cost) 0 (le-leb 0 0 (omega arith)), total-mono (λ w. cond (leb 1 (w .release)) (task-at s (w .task) .cost) 0) (λ w. cond (leb 0 (w .release)) (task-at s (w .task) .cost) 0) ws
-          (λ w k. cond-le (leb 1 (w .release)) (leb 0 (w .release)) (task-at s (w .task) .cost) (task-at s (w .task) .cost) (λ h. inr (le-leb 0 (w .release) (omega arith), omega arith))))
+      cost-more = omega (
+        arith,
+        cond-true (leb 0 0) (task-at s p .cost) 0 (le-leb 0 0 (omega arith)),
+        total-mono (λ w. cond (leb 1 (w .release)) (task-at s (w .task) .cost) 0) (λ w. cond (leb 0 (w .release)) (task-at s (w .task) .cost) 0) ws
+            (λ w k. cond-le (leb 1 (w .release)) (leb 0 (w .release)) (task-at s (w .task) .cost) (task-at s (w .task) .cost) (λ h. inr (le-leb 0 (w .release) (omega arith), omega arith))),
+      )
 
       first-ahead : demand s t + (task-at s p .cost - 1) ≤ t
       first-ahead = omega (
@@ -78,7 +82,7 @@ module _ (s : Task-set) (o : Order) (checked : Checked s) (law : Lawful s o) (L 
         cost-more,
         task-ranges s checked p hp .cost-low,
         one-window s o checked law L busy admitted more known-more far-more (suc t) short due-more mode 0 0 K (inr m) (due-facts s checked t K m .from) (omega arith) last-more (inl refl)
-          (λ y d lt held from. packed-non-preemptive s o checked law L busy admitted more known-more far-more (suc t) short due-more mode (suc t) y d (omega arith) lt held from),
+            (λ y d lt held from. packed-non-preemptive s o checked law L busy admitted more known-more far-more (suc t) short due-more mode (suc t) y d (omega arith) lt held from),
       )
 
     -- the last of the jobs leads it: then it is behind all of them
@@ -87,7 +91,7 @@ module _ (s : Task-set) (o : Order) (checked : Checked s) (law : Lawful s o) (L 
       arith,
       cost,
       packed-non-preemptive s o checked law L busy admitted ws known far (suc t) short due mode (suc t) 1 (task-at s p .cost - 1) (omega arith) (omega arith)
-        (inr (p, 0, hp, omega arith, λ v k from. behind v k from (cases-bool (leads o (v .task) (v .release) p 0)), omega (arith, task-ranges s checked p hp .cost-low))) (K, m, low),
+          (inr (p, 0, hp, omega arith, λ v k from. behind v k from (cases-bool (leads o (v .task) (v .release) p 0)), omega (arith, task-ranges s checked p hp .cost-low))) (K, m, low),
     )
       where
         behind : (v : Work) → In v ws → 1 ≤ v .release → (leads o (v .task) (v .release) p 0 ≡ true) ⊎ (leads o (v .task) (v .release) p 0 ≡ false) → leads o (v .task) (v .release) p 0 ≡ false

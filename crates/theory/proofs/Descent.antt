@@ -12,7 +12,7 @@ use Rattle.theory.proofs.Demand.{least-under}
 use Rattle.theory.proofs.Divisions.{ceil-least, ceil-covers, ceil-above}
 
 module _ (low T level : ℕ) (W : ℕ → ℕ → ℕ) (period : 1 ≤ T) (some : 1 ≤ level) (mono : (q : ℕ) → Monotone (W q)) (first : (q : ℕ) → low ≤ W q low)
-  (moved : (q t : ℕ) → W (q + ceil-div level T) (level + t) ≤ level + W q t) where
+    (moved : (q t : ℕ) → W (q + ceil-div level T) (level + t) ≤ level + W q t) where
   -- a solution w of W q is not above one of W p, with p·T below the level, by more than q is above p
   pub descend : (L : ℕ) → ((q : ℕ) → q * T < L → (w : ℕ) × Least-solution low (W q) w) → (q w : ℕ) → q * T < L → Least-solution low (W q) w → (p : ℕ) × (v : ℕ) × (p * T < level) × Least-solution low (W p) v × (w + p * T ≤ v + q * T)
   descend L exists q w inside sol = upto (suc q) q w (omega arith) inside sol

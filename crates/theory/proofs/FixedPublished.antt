@@ -55,12 +55,15 @@ pub fixed-as-published : (s : Task-set) (L : ℕ) → Checked s → Busy-period 
 fixed-as-published s L checked busy i r a here worst = go (level-exists s checked i here (s .mode) L busy)
   where
     go : (level : ℕ) × Least-solution 1 (level-load (s .mode) s i) level × (level ≤ L) → (level : ℕ) × Level-response s i r level
-    go (level, sol, le) = (level, record {
-      busy = sol;
-      solved = λ q lt. let x = recurrence-exists s checked i here (s .mode) L busy q (omega arith) in (x .0, x .1, released-first s checked i here (s .mode) level sol q (x .0) lt (x .1));
-      longest = upper;
-      taken = exact (reached s checked L busy i here (s .mode) level sol le r a (worst .inside) (worst .given));
-    })
+    go (level, sol, le) = (
+      level,
+      record {
+        busy = sol;
+        solved = λ q lt. let x = recurrence-exists s checked i here (s .mode) L busy q (omega arith) in (x .0, x .1, released-first s checked i here (s .mode) level sol q (x .0) lt (x .1));
+        longest = upper;
+        taken = exact (reached s checked L busy i here (s .mode) level sol le r a (worst .inside) (worst .given));
+      },
+    )
       where
         upper : (q w : ℕ) → q * task-at s i .period < level → Solved s checked i here (s .mode) q w → response-of (s .mode) s i q w ≤ r
         upper q w lt mine = omega (arith, worst .longest (q * task-at s i .period) (max (task-at s i .cost) (response-of (s .mode) s i q w)) (omega arith) (solved-response s checked i here (s .mode) q w mine))

@@ -78,19 +78,26 @@ module _ (s : Task-set) (checked : Checked s) (i : ℕ) (here : i < task-count s
 
   -- job q ends or begins no earlier than it is released
   pub released-first : (m : Mode) (level : ℕ) → Least-solution 1 (level-load m s i) level → (q w : ℕ) → q * task-at s i .period < level → Solved m q w → q * task-at s i .period ≤ w
-  released-first Preemptive level busy q w lt sol = omega (arith, beyond 1 (recurrence Preemptive s i q) w (q * task-at s i .period) sol (λ u low le. omega (
+  released-first Preemptive level busy q w lt sol = omega (
     arith,
-    below-solution 1 (level-load Preemptive s i) level u (load-mono s checked i here Preemptive) (load-first s checked i here Preemptive) busy low (omega arith),
-    mul-le-mul-right (task-at s i .cost) (ceil-least u (task-at s i .period) q period-low le),
-    add-mul q 1 (task-at s i .cost),
-  )))
+    beyond 1 (recurrence Preemptive s i q) w (q * task-at s i .period) sol (λ u low le. omega (
+      arith,
+      below-solution 1 (level-load Preemptive s i) level u (load-mono s checked i here Preemptive) (load-first s checked i here Preemptive) busy low (omega arith),
+      mul-le-mul-right (task-at s i .cost) (ceil-least u (task-at s i .period) q period-low le),
+      add-mul q 1 (task-at s i .cost),
+    )),
+  )
   released-first NonPreemptive level busy q w lt sol = go (cases-eq (q * task-at s i .period) 0)
     where
       go : (q * task-at s i .period ≡ 0) ⊎ (q * task-at s i .period ≡ 0 → ⊥) → q * task-at s i .period ≤ w
       go (inl e) = omega arith
-      go (inr ne) = omega (arith, ne, beyond 0 (recurrence NonPreemptive s i q) w (q * task-at s i .period - 1) sol (λ u low le. omega (
+      go (inr ne) = omega (
         arith,
-        below-solution 1 (level-load NonPreemptive s i) level (suc u) (load-mono s checked i here NonPreemptive) (load-first s checked i here NonPreemptive) busy (omega arith) (omega (arith, ne)),
-        mul-le-mul-right (task-at s i .cost) (ceil-least (suc u) (task-at s i .period) q period-low (omega (arith, ne))),
-        above-suc s checked i here u,
-      )))
+        ne,
+        beyond 0 (recurrence NonPreemptive s i q) w (q * task-at s i .period - 1) sol (λ u low le. omega (
+          arith,
+          below-solution 1 (level-load NonPreemptive s i) level (suc u) (load-mono s checked i here NonPreemptive) (load-first s checked i here NonPreemptive) busy (omega arith) (omega (arith, ne)),
+          mul-le-mul-right (task-at s i .cost) (ceil-least (suc u) (task-at s i .period) q period-low (omega (arith, ne))),
+          above-suc s checked i here u,
+        )),
+      )

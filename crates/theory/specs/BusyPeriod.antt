@@ -1,6 +1,5 @@
 -- The busy period ("stretch"): how long the processor stays busy when all tasks release at once and then as often as they may.
 use Prim.Native.Nat.{ℕ, _+_, _-_, _*_, _/_, _≤_}
-use mathlib.Core.Path.{_≡_}
 use Rattle.table.specs.Rules.{Task-set, task-at, task-count}
 use Rattle.theory.specs.Sums.{sum-below}
 use Rattle.theory.specs.LeastSolution.{Least-solution}

@@ -1,6 +1,6 @@
 -- What the judgement promises of every run, for a checked task set with a busy period L and any lawful order.
 use Prim.Native.Nat.{ℕ, _+_, _≤_, _<_}
-use mathlib.Core.Bool.{true, false}
+use mathlib.Core.Bool.{false}
 use mathlib.Core.List.{List, [], _∷_, _++_}
 use mathlib.Core.Path.{_≡_}
 use Rattle.table.specs.Rules.{Task-set, task-at, task-count}

@@ -1,6 +1,6 @@
 -- The response of a job of task i released at offset a into a busy period, preemptive and non-preemptive.
 use Prim.Native.Nat.{ℕ, suc, _+_, _-_, _*_, _/_, max}
-use mathlib.Core.Bool.{Bool, _&&_, cond}
+use mathlib.Core.Bool.{_&&_, cond}
 use mathlib.Core.Path.{_≡_}
 use lib.Dec.{ltb, eqb}
 use lib.IntN.{pos, negsuc}

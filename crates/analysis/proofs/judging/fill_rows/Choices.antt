@@ -1,6 +1,6 @@
 use Prim.Native.Nat.{ℕ, _<_}
 use mathlib.Core.Path.{_≡_}
-use lib.ListN.{length, drop}
+use lib.ListN.{drop}
 use Rattle.table.specs.Model.{content}
 use Rattle.analysis.specs.Judged.{Row-of, row-at}
 use Rattle.analysis.proofs.judging.fill_rows.Given as given

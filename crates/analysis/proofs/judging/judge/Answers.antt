@@ -1,12 +1,12 @@
 use mathlib.Core.List.{List}
-use mathlib.Core.Path.{_≡_, sym, ap, subst, _∙_}
+use mathlib.Core.Path.{subst}
 use Prim.Native.Nat.{ℕ, _-_, _≤_, _<_}
 use native.Mathlib.Omega.{arith}
 use lib.ListN.{length, take}
 use Rattle.table.specs.Model.{content}
 use Rattle.table.proofs.Tables.{table-checked}
 use Rattle.policy.proofs.Lawfulness.{lawful}
-use Rattle.analysis.specs.Judged.{Given, Verdict-of, Meets, no-row, row-at}
+use Rattle.analysis.specs.Judged.{Given, Verdict-of, Meets, no-row}
 use Rattle.analysis.specs.declared.rows.Judgement.{Judgement}
 use Rattle.analysis.specs.declared.rows.Row.{Row}
 use Rattle.analysis.specs.declared.rows.Verdict.{Verdict}

@@ -1,10 +1,8 @@
-use mathlib.Core.Path.{_≡_, sym, ap, subst}
-use Prim.Native.Nat.{ℕ, _-_, _≤_, _<_}
+use mathlib.Core.Path.{sym, ap, subst}
+use Prim.Native.Nat.{_≤_}
 use native.Mathlib.Omega.{arith}
 use borrow.Author.Needs.{needs}
-use lib.ListN.{take}
 use Rattle.table.specs.Model.{content}
-use Rattle.table.specs.Rules.{task-at, task-count}
 use Rattle.table.proofs.Tables.{table-checked}
 use Rattle.table.specs.Sporadic.{Sporadic}
 use Rattle.policy.proofs.Lawfulness.{lawful}

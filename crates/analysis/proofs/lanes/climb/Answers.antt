@@ -1,7 +1,4 @@
-use Prim.Native.Nat.{ℕ, _+_, _≤_, _<_}
-use mathlib.Core.Path.{_≡_}
 use native.Mathlib.Omega.{arith}
-use Rattle.analysis.specs.Lanes.{lanes-work}
 use Rattle.analysis.proofs.Growth.{work-mono}
 use Rattle.analysis.proofs.lanes.climb.Needs as need
 

@@ -1,6 +1,6 @@
 use mathlib.Core.List.{List, map, _++_}
-use mathlib.Core.Path.{_≡_, sym, ap, _∙_, subst, refl}
-use Prim.Native.Nat.{ℕ, _+_, _-_, _≤_, _<_}
+use mathlib.Core.Path.{_≡_, sym, ap, _∙_, subst}
+use Prim.Native.Nat.{ℕ, _<_}
 use native.Mathlib.Omega.{arith}
 use native.Mathlib.Nat.{sub-self}
 use lib.ListN.{length, getD, take, drop, set, length-map}

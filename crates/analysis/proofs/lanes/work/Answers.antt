@@ -1,8 +1,6 @@
-use mathlib.Core.Path.{_≡_, sym, ap, _∙_}
-use Prim.Native.Nat.{ℕ, _+_, _*_, _≤_}
+use Prim.Native.Nat.{ℕ, _*_}
 use native.Mathlib.Omega.{arith}
 use borrow.Author.Needs.{needs}
-use Rattle.theory.specs.Sums.{sum-below}
 use Rattle.analysis.specs.Lanes.{lane-at, lane-jobs}
 use Rattle.theory.proofs.OneMore.{sum-more, sum-none}
 use Rattle.analysis.proofs.lanes.work.Needs as need

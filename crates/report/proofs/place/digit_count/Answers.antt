@@ -1,5 +1,4 @@
 use native.Mathlib.Omega.{arith}
-use Prim.Native.Nat.{_<_, _^_}
 use Rattle.std.proofs.shelf.Decimals.{length-decimal-le}
 use lib.Dec.{lit<}
 use Rattle.report.proofs.Figures.{shorter, one-digit}

@@ -1,11 +1,11 @@
 use mathlib.Core.Path.{_≡_, sym, ap, subst, _∙_}
-use mathlib.Core.List.{List, map}
-use Prim.Native.Nat.{ℕ, _+_, _≤_, _<_, max}
+use mathlib.Core.List.{map}
+use Prim.Native.Nat.{ℕ, _+_, _≤_}
 use native.Mathlib.Omega.{arith}
 use Rattle.table.specs.declared.kinds.Mode.{Mode}
 use Rattle.table.specs.declared.kinds.Mode.the-variants.{NonPreemptive, Preemptive}
 use Rattle.analysis.specs.Lanes.{limited, lanes-work, Sound}
-use Rattle.analysis.specs.Own.{window-work, own-work, response-in, Lane-response}
+use Rattle.analysis.specs.Own.{window-work, response-in, Lane-response}
 use Rattle.analysis.proofs.Bests.{so-far-more}
 use Rattle.analysis.proofs.Windows.{limited-sound, limited-twice, least-same, same-window, offset-mono}
 use Rattle.analysis.proofs.window.offsets.worst_response.Needs as need

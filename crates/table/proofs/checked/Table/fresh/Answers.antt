@@ -1,7 +1,6 @@
 use mathlib.Core.Path.{_≡_, refl, ap, _∙_}
 use mathlib.Core.Bool.{true}
 use mathlib.Core.List.{_∷_, []}
-use Prim.Native.Nat.{_≤_}
 use lib.Dec.{lit≤}
 use Rattle.table.specs.Rules.{follows-rules}
 use Rattle.table.specs.Model.{fresh-task}

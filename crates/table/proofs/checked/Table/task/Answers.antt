@@ -1,5 +1,4 @@
-use mathlib.Core.Path.{_≡_, sym, subst}
-use Prim.Native.Nat.{_<_, _≤_}
+use Prim.Native.Nat.{_<_}
 use native.Mathlib.Omega.{arith}
 use Rattle.table.specs.Model.{content}
 use Rattle.table.specs.Rules.{task-count}

@@ -1,6 +1,5 @@
-use mathlib.Core.Path.{_≡_, sym, ap, _∙_}
+use mathlib.Core.Path.{sym}
 use mathlib.Core.List.{map}
-use mathlib.Core.Bool.{_&&_, false}
 use mathlib.Core.Logic.{inl, inr, ⊎-elim}
 use lib.ListN.{length-map, length}
 use Rattle.table.specs.Content.{sporadic}

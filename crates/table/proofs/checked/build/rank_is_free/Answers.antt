@@ -5,7 +5,7 @@ use Rattle.std.proofs.shelf.Ways.{tells}
 use lib.Dec.{eqb}
 use lib.Seq.{take-all}
 use Rattle.table.specs.Content.{sporadic}
-use Rattle.table.specs.Sporadic.{Sporadic, every}
+use Rattle.table.specs.Sporadic.{every}
 use Rattle.table.specs.declared.task.Task.{Task}
 use Rattle.table.proofs.Every.{every-step, every-stop, every-map}
 use Rattle.table.proofs.checked.build.rank_is_free.Needs as need

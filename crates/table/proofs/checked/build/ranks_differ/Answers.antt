@@ -1,5 +1,4 @@
-use mathlib.Core.Path.{_≡_, sym, ap, _∙_}
-use mathlib.Core.Bool.{true, false}
+use mathlib.Core.Path.{sym, ap, _∙_}
 use Rattle.table.specs.Content.{sporadic}
 use Rattle.table.specs.Rules.{ranks-differ}
 use mathlib.Core.List.{map}

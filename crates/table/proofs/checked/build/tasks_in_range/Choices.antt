@@ -1,6 +1,5 @@
 use mathlib.Core.Path.{_≡_}
-use mathlib.Core.Bool.{true, not}
-use lib.Dec.{eqb}
+use mathlib.Core.Bool.{true}
 use lib.ListN.{take}
 use Rattle.table.specs.Content.{sporadic}
 use Rattle.table.specs.Sporadic.{every, task-in-range}

@@ -1,5 +1,4 @@
 use mathlib.Core.Path.{sym, ap, _∙_}
-use native.Mathlib.Omega.{arith}
 use lib.Seq.{take-all}
 use Rattle.table.specs.Sporadic.{every, name-byte}
 use Rattle.table.proofs.Every.{every-more, every-false}
