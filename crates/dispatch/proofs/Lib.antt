@@ -1,3 +1,5 @@
 pub mod Sources
 pub mod Served
 pub mod Counted
+pub mod Queues
+pub mod Ahead

@@ -1,1 +1,5 @@
 pub mod Summaries
+pub mod Lines
+pub mod Leading
+pub mod Represents
+pub mod Replies

@@ -1,2 +1,5 @@
 //! The dispatcher: a run of a checked table under any policy, tick by tick.
-ghost use Rattle.dispatch.specs.Summaries.{summed};
+pub mod line;
+pub mod replies;
+pub mod stage;
+pub mod station;

@@ -1,0 +1,33 @@
+-- When a station stands for a state of the reference machine, and which calls it has answered.
+use Prim.Native.Nat.{ℕ, _≤_, _<_}
+use mathlib.Core.List.{List, [], _∷_}
+use mathlib.Core.Path.{_≡_}
+use Rattle.table.specs.Model.{content}
+use Rattle.table.specs.Rules.{Task-set, task-count}
+use Rattle.table.specs.declared.kinds.Mode.the-variants.{NonPreemptive}
+use Rattle.policy.specs.Order.{Order}
+use Rattle.theory.specs.Machine.{State, Call, start, play}
+use Rattle.dispatch.specs.Lines.{board}
+use Rattle.dispatch.specs.Summaries.{Summary, Pending, summed}
+use Rattle.dispatch.specs.declared.stage.Stage.{Stage}
+use Rattle.dispatch.specs.declared.stage.Stage.the-variants.{Idle, Begun}
+use Rattle.dispatch.specs.declared.station.Station.{Station}
+
+-- how many ticks the first of the waiting jobs ran
+abbrev pub ran-first : List Pending → ℕ
+ran-first [] = 0
+ran-first (p ∷ ps) = p .ran
+
+-- the stage tells the only task of the n whose first job is begun, if there is one
+abbrev pub Fits : Stage → ℕ → (ℕ → Summary) → Type 0
+Fits Idle n b = (j : ℕ) → j < n → ran-first (b j .waiting) ≡ 0
+Fits (Begun i) n b = (i < n) × (1 ≤ ran-first (b i .waiting)) × ((j : ℕ) → j < n → (j ≡ i → ⊥) → ran-first (b j .waiting) ≡ 0)
+
+pub record Represents (d : Station) (st : State) : Type 0 where
+  pub time : d .time ≡ st .time
+  pub lines : (j : ℕ) → j < task-count (content (d .table)) → board (d .lines) j ≡ summed (content (d .table)) j (st .jobs)
+  pub stage : content (d .table) .mode ≡ NonPreemptive → Fits (d .stage) (task-count (content (d .table))) (board (d .lines))
+
+-- the station has answered these calls, under this order
+abbrev pub Answered : Order → Station → List Call → Type 0
+Answered o d calls = Represents d (play (content (d .table)) o start calls)
