@@ -3,3 +3,4 @@ pub mod Served
 pub mod Counted
 pub mod Queues
 pub mod Ahead
+pub mod Agreement

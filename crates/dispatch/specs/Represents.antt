@@ -23,11 +23,12 @@ abbrev pub Fits : Stage → ℕ → (ℕ → Summary) → Type 0
 Fits Idle n b = (j : ℕ) → j < n → ran-first (b j .waiting) ≡ 0
 Fits (Begun i) n b = (i < n) × (1 ≤ ran-first (b i .waiting)) × ((j : ℕ) → j < n → (j ≡ i → ⊥) → ran-first (b j .waiting) ≡ 0)
 
-pub record Represents (d : Station) (st : State) : Type 0 where
-  pub time : d .time ≡ st .time
-  pub lines : (j : ℕ) → j < task-count (content (d .table)) → board (d .lines) j ≡ summed (content (d .table)) j (st .jobs)
-  pub stage : content (d .table) .mode ≡ NonPreemptive → Fits (d .stage) (task-count (content (d .table))) (board (d .lines))
+-- the task set, the time, the lines and the stage of a station stand for a state
+pub record Represents (s : Task-set) (now-is : ℕ) (b : ℕ → Summary) (begun : Stage) (st : State) : Type 0 where
+  pub time : now-is ≡ st .time
+  pub lines : (j : ℕ) → j < task-count s → b j ≡ summed s j (st .jobs)
+  pub stage : s .mode ≡ NonPreemptive → Fits begun (task-count s) b
 
 -- the station has answered these calls, under this order
 abbrev pub Answered : Order → Station → List Call → Type 0
-Answered o d calls = Represents d (play (content (d .table)) o start calls)
+Answered o d calls = Represents (content (d .table)) (d .time) (board (d .lines)) (d .stage) (play (content (d .table)) o start calls)

@@ -13,3 +13,13 @@ pub struct Head {
     pub task: usize,
     pub release: u32,
 }
+
+/// What became of the job that a tick ran.
+#[derive(Clone, Copy)]
+pub enum Outcome {
+    /// There was none.
+    Idled,
+    /// It is not finished.
+    Went { task: usize },
+    Ended,
+}
