@@ -4,3 +4,4 @@ pub mod Counted
 pub mod Queues
 pub mod Ahead
 pub mod Agreement
+pub mod Ties
