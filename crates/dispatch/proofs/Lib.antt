@@ -5,3 +5,4 @@ pub mod Queues
 pub mod Ahead
 pub mod Agreement
 pub mod Ties
+pub mod Stations

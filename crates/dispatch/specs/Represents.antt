@@ -1,12 +1,12 @@
 -- When a station stands for a state of the reference machine, and which calls it has answered.
 use Prim.Native.Nat.{ℕ, _≤_, _<_}
-use mathlib.Core.List.{List, [], _∷_}
+use mathlib.Core.List.{List, [], _∷_, _++_}
 use mathlib.Core.Path.{_≡_}
 use Rattle.table.specs.Model.{content}
 use Rattle.table.specs.Rules.{Task-set, task-count}
 use Rattle.table.specs.declared.kinds.Mode.the-variants.{NonPreemptive}
 use Rattle.policy.specs.Order.{Order}
-use Rattle.theory.specs.Machine.{State, Call, start, play}
+use Rattle.theory.specs.Machine.{State, Call, Answer, start, play, answer}
 use Rattle.dispatch.specs.Lines.{board}
 use Rattle.dispatch.specs.Summaries.{Summary, Pending, summed}
 use Rattle.dispatch.specs.declared.stage.Stage.{Stage}
@@ -32,3 +32,7 @@ pub record Represents (s : Task-set) (now-is : ℕ) (b : ℕ → Summary) (begun
 -- the station has answered these calls, under this order
 abbrev pub Answered : Order → Station → List Call → Type 0
 Answered o d calls = Represents (content (d .table)) (d .time) (board (d .lines)) (d .stage) (play (content (d .table)) o start calls)
+
+-- from d to e: for every list of calls that d has answered, e has answered that list and the call c, and `given` is the reference machine's answer to it
+abbrev pub Answers : Order → Station → Station → Call → Answer → Type 0
+Answers o d e c given = (calls : List Call) → Answered o d calls → Answered o e (calls ++ (c ∷ [])) × (given ≡ answer (content (d .table)) o (play (content (d .table)) o start calls) c)

@@ -1,4 +1,5 @@
 //! The dispatcher: a run of a checked table under any policy, tick by tick.
+pub mod front;
 pub mod line;
 pub mod replies;
 pub mod stage;

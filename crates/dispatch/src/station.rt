@@ -16,3 +16,7 @@ pub struct Station {
     ghost room: { length lines ≡ 24 },
     ghost clock: { time ≤ 4000000000 },
 }
+
+pub mod calls;
+pub mod lines;
+pub mod ticks;
