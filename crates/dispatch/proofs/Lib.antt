@@ -6,3 +6,4 @@ pub mod Ahead
 pub mod Agreement
 pub mod Ties
 pub mod Stations
+pub mod Movings

@@ -2,5 +2,6 @@
 pub mod front;
 pub mod line;
 pub mod replies;
+pub mod run;
 pub mod stage;
 pub mod station;

@@ -49,4 +49,65 @@ impl Station {
             (_, Mode::Preemptive, _) => {}
         }
     }
+    // The tick that finishes the job; the time has passed already.
+    fn finish(&mut self, front: Front) -> Ticked
+        requires { ⌜ Fronted (content (now self .table)) (board (now self .lines)) front ⌝ }
+        ensures table { λ _. ⌜ now (self .exit) .table ≡ now (self .entry) .table ⌝ }
+        ensures time { λ _. ⌜ now (self .exit) .time ≡ now (self .entry) .time ⌝ }
+        ensures moves { λ r. ⌜ ((p : Pending) (ps : List Pending) → board (now (self .entry) .lines) (front .task) .waiting ≡ p ∷ ps → Moves (content (now (self .entry) .table)) (now (self .entry) .time) (board (now (self .entry) .lines)) (board (now (self .exit) .lines)) (now (self .entry) .stage) (now (self .exit) .stage) (front .task) true p ps r) ⌝ }
+    {
+        let response = self.time.saturating_sub(front.release);
+        self.put(front.task, front.line.finish(self.time, front.known));
+        self.turn(Outcome::Ended);
+        Ticked::Finished {
+            task: front.task,
+            release: front.release,
+            response,
+        }
+    }
+
+    // A tick after which the job is not finished.
+    fn go_on(&mut self, front: Front) -> Ticked
+        requires front { ⌜ Fronted (content (now self .table)) (board (now self .lines)) front ⌝ }
+        requires short { ⌜ front .line .ran + 1 < front .known .cost ⌝ }
+        ensures table { λ _. ⌜ now (self .exit) .table ≡ now (self .entry) .table ⌝ }
+        ensures time { λ _. ⌜ now (self .exit) .time ≡ now (self .entry) .time ⌝ }
+        ensures moves { λ r. ⌜ ((p : Pending) (ps : List Pending) → board (now (self .entry) .lines) (front .task) .waiting ≡ p ∷ ps → Moves (content (now (self .entry) .table)) (now (self .entry) .time) (board (now (self .entry) .lines)) (board (now (self .exit) .lines)) (now (self .entry) .stage) (now (self .exit) .stage) (front .task) false p ps r) ⌝ }
+    {
+        self.put(front.task, front.line.go_on());
+        self.turn(Outcome::Went { task: front.task });
+        Ticked::Ran {
+            task: front.task,
+            release: front.release,
+        }
+    }
+
+    // The job runs for the tick that has passed.
+    fn serve(&mut self, front: Front, done: bool) -> Ticked
+        requires { ⌜ Fronted (content (now self .table)) (board (now self .lines)) front ⌝ }
+        ensures table { λ _. ⌜ now (self .exit) .table ≡ now (self .entry) .table ⌝ }
+        ensures time { λ _. ⌜ now (self .exit) .time ≡ now (self .entry) .time ⌝ }
+        ensures moves { λ r. ⌜ ((p : Pending) (ps : List Pending) → board (now (self .entry) .lines) (front .task) .waiting ≡ p ∷ ps → Moves (content (now (self .entry) .table)) (now (self .entry) .time) (board (now (self .entry) .lines)) (board (now (self .exit) .lines)) (now (self .entry) .stage) (now (self .exit) .stage) (front .task) (ends-now (task-at (content (now (self .entry) .table)) (front .task)) done p) p ps r) ⌝ }
+    {
+        if front.line.is_over(front.known, done) {
+            self.finish(front)
+        } else {
+            self.go_on(front)
+        }
+    }
+
+    // A tick for the first job of the chosen task; an idle one where there is none.
+    pub(crate) fn advance(&mut self, chosen: Option<usize>, done: bool) -> Ticked
+        requires { ⌜ now self .time < 4000000000 ⌝ }
+        ensures table { λ _. ⌜ now (self .exit) .table ≡ now (self .entry) .table ⌝ }
+        ensures time { λ _. ⌜ now (self .exit) .time ≡ now (self .entry) .time + 1 ⌝ }
+        ensures moved { λ r. ⌜ Advanced (content (now (self .entry) .table)) (now (self .entry) .time + 1) (board (now (self .entry) .lines)) (board (now (self .exit) .lines)) (now (self .entry) .stage) (now (self .exit) .stage) chosen done r ⌝ }
+    {
+        self.time += 1;
+        let Some(front) = self.front(chosen) else {
+            self.turn(Outcome::Idled);
+            return Ticked::Idle;
+        };
+        self.serve(front, done)
+    }
 }
