@@ -7,3 +7,4 @@ pub mod Agreement
 pub mod Ties
 pub mod Stations
 pub mod Movings
+pub mod Kept

@@ -19,4 +19,5 @@ pub struct Station {
 
 pub mod calls;
 pub mod lines;
+pub mod parts;
 pub mod ticks;
