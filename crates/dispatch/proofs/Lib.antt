@@ -8,3 +8,4 @@ pub mod Ties
 pub mod Stations
 pub mod Movings
 pub mod Kept
+pub mod Replays

@@ -6,3 +6,4 @@ pub mod Represents
 pub mod Put
 pub mod Advanced
 pub mod Replies
+pub mod Replayed
