@@ -1,17 +1,16 @@
 -- The work ahead and the blocking of task i when the tasks stand at levels: fewer tasks ahead make less of it, even where the others then block.
-use Prim.Native.Nat.{ℕ, zero, suc, _+_, _-_, _*_, _/_, _≤_, _<_}
+use Prim.Native.Nat.{ℕ, suc, _+_, _-_, _*_, _/_, _≤_, _<_}
 use mathlib.Core.Bool.{Bool, true, false, cond, _&&_}
-use mathlib.Core.Path.{_≡_, refl, sym, ap, subst, _∙_}
+use mathlib.Core.Path.{_≡_, sym, ap, subst, _∙_}
 use mathlib.Core.Logic.{_⊎_, inl, inr}
 use native.Mathlib.Omega.{arith}
 use native.Mathlib.Nat.{mul-le-mul-right, zero-mul}
 use lib.Dec.{eqb, ltb}
 use lib.IntN.{pos, negsuc}
 use lib.Signed.{ltZ}
-use Rattle.std.proofs.shelf.Tests.{cases-bool, cases-lt, both-ways, cond-true, cond-false, and-parts, and-from, eqb-false, eqb-true, ltb-true, lt-ltb, le-ltb, ne-eqb}
+use Rattle.std.proofs.shelf.Tests.{cases-bool, cases-lt, cond-true, cond-false, and-parts, and-from, eqb-false, ltb-true, lt-ltb, le-ltb, ne-eqb}
 use Rattle.table.specs.Rules.{Task-set, task-at, task-count}
-use Rattle.policy.specs.Order.{Order, job}
-use Rattle.theory.specs.Sums.{sum-below, max-below, count-below}
+use Rattle.theory.specs.Sums.{sum-below}
 use Rattle.theory.specs.Response.{jobs-ahead, work-ahead, blocking, until-finish, until-start}
 use Rattle.theory.proofs.Sums.{sum-mono, sum-split, max-at, max-taken, count-mono, count-at-least, count-at-most}
 use Rattle.priority.specs.Ordering.{level-order}

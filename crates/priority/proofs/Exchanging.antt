@@ -1,17 +1,16 @@
 -- Exchanging two ranks keeps the rules, and moves nothing that stands behind both.
-use Prim.Native.Nat.{ℕ, zero, suc, _+_, _-_, _≤_, _<_}
+use Prim.Native.Nat.{ℕ, _≤_, _<_}
 use mathlib.Core.Bool.{Bool, true, false, cond, not, _&&_}
 use mathlib.Core.List.{List, [], _∷_, map}
-use mathlib.Core.Path.{_≡_, refl, sym, ap, subst, _∙_}
-use mathlib.Core.Logic.{_⊎_, inl, inr}
+use mathlib.Core.Path.{_≡_, refl, sym, ap, _∙_}
 use native.Mathlib.Omega.{arith}
 use lib.Dec.{eqb}
-use lib.ListN.{length, length-map, getD}
+use lib.ListN.{length-map}
 use Rattle.std.proofs.shelf.Lists.{getD-map}
-use Rattle.std.proofs.shelf.Tests.{cases-eq, cases-lt, both-ways, cond-true, cond-false, eq-eqb, ne-eqb, eqb-true, eqb-false, not-true, not-from-false}
+use Rattle.std.proofs.shelf.Tests.{both-ways, cond-true, eq-eqb, ne-eqb, eqb-false, not-true, not-from-false}
 use Rattle.std.proofs.shelf.Ways.{tells}
 use Rattle.table.specs.Sporadic.{Sporadic, within, every, task-in-range, cost-in-range, period-in-range, deadline-in-range, rank-in-range, name-in-range}
-use Rattle.table.specs.Rules.{Task-set, Checked, follows-rules, task-at, task-count, rank-free, ranks-differ, band-in-range}
+use Rattle.table.specs.Rules.{Task-set, Checked, follows-rules, task-count, rank-free, ranks-differ, band-in-range}
 use Rattle.table.specs.declared.kinds.PolicyCode.the-variants.{Fixed}
 use Rattle.table.proofs.Every.{and-true, and-left, and-right, rules-inside}
 use Rattle.table.proofs.Ranges.{count-ranges}

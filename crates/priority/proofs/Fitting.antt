@@ -1,17 +1,16 @@
 -- Whether a task fits at a rank, by its worst response in any order that has it there and the same tasks behind.
-use Prim.Native.Nat.{ℕ, _+_, _-_, _≤_, _<_}
-use mathlib.Core.Bool.{Bool, true, false, cond}
-use mathlib.Core.Path.{_≡_, refl, sym, ap, subst, _∙_}
+use Prim.Native.Nat.{ℕ, _≤_, _<_}
+use mathlib.Core.Bool.{cond}
+use mathlib.Core.Path.{_≡_, refl, _∙_}
 use mathlib.Core.Logic.{_⊎_, inl, inr}
 use native.Mathlib.Omega.{arith}
 use lib.Dec.{eqb, ltb}
 use Rattle.std.proofs.shelf.Tests.{cases-eq, cases-lt, cond-true, cond-false, eq-eqb, ne-eqb, lt-ltb, le-ltb}
-use Rattle.table.specs.Rules.{Task-set, Checked, task-at, task-count}
+use Rattle.table.specs.Rules.{Task-set, Checked, task-count}
 use Rattle.table.proofs.Ranges.{task-ranges, ranks-apart}
 use Rattle.policy.specs.Orders.{fixed-order}
-use Rattle.theory.specs.Worst.{Worst}
 use Rattle.theory.specs.Guarantee.{Admitted-by}
-use Rattle.priority.specs.Ordering.{rank-in, level-order}
+use Rattle.priority.specs.Ordering.{rank-in}
 use Rattle.priority.specs.Assignment.{level-at, Fits, Filled}
 use Rattle.priority.specs.Steps.{In-time}
 use Rattle.priority.proofs.Pointwise.{Alike, alike-self, alike-back}

@@ -1,6 +1,6 @@
 -- Where no task that is left fits at a rank, every order of the tasks has a late one: the task left that the order ranks last.
-use Prim.Native.Nat.{ℕ, zero, suc, _+_, _-_, _≤_, _<_}
-use mathlib.Core.Path.{_≡_, refl, sym, ap, subst, _∙_}
+use Prim.Native.Nat.{ℕ, zero, suc, _≤_, _<_}
+use mathlib.Core.Path.{_≡_, ap}
 use mathlib.Core.Logic.{_⊎_, inl, inr}
 use native.Mathlib.Omega.{arith}
 use Rattle.std.proofs.shelf.Tests.{cases-eq, cases-lt}
@@ -13,7 +13,7 @@ use Rattle.theory.specs.Worst.{Worst}
 use Rattle.theory.specs.Guarantee.{Late-by}
 use Rattle.theory.proofs.Existence.{response-exists}
 use Rattle.theory.proofs.WorstExists.{worst-exists}
-use Rattle.priority.specs.Ordering.{Ordering-of, rank-in, level-order}
+use Rattle.priority.specs.Ordering.{Ordering-of, rank-in}
 use Rattle.priority.specs.Assignment.{level-at, Fits, Filled, Stuck, Unfilled}
 use Rattle.priority.proofs.Pointwise.{Alike, alike-back, alike-through, same-busy, ordering-alike}
 use Rattle.priority.proofs.Demand.{Fewer, Alone}
@@ -97,6 +97,6 @@ unfilled s L k busy low high t ordering filled stuck = record {
   high = high;
   placed = (t, ordering, filled, stuck);
   in-vain = λ u other.
-    let there = ordering-alike s t ordering in
-    stuck-late t u (alike-through t s u (alike-back s t there) (ordering-alike s u other)) L k (same-busy s t L there busy) (ordering .ranks) (other .ranks) low (omega (arith, there .count)) stuck;
+      let there = ordering-alike s t ordering in
+      stuck-late t u (alike-through t s u (alike-back s t there) (ordering-alike s u other)) L k (same-busy s t L there busy) (ordering .ranks) (other .ranks) low (omega (arith, there .count)) stuck;
 }

@@ -1,8 +1,12 @@
 -- The order of fixed priorities is lawful.
-use mathlib.Core.Path.{_≡_}
+use mathlib.Core.Path.{_≡_, refl, sym, _∙_}
 use native.Mathlib.Omega.{arith}
+use lib.Dec.{eqb, ltb}
+use lib.Signed.{ltZ}
+use mathlib.Core.Bool.{Bool, true, false, cond}
 use Rattle.std.proofs.shelf.Signed.{ints}
 use Rattle.std.proofs.shelf.Ways.{tells}
+use Rattle.std.proofs.shelf.Tests.{cond-false, ne-eqb}
 use Rattle.table.specs.Rules.{Task-set, Checked, task-at}
 use Rattle.table.proofs.Ranges.{ranks-apart}
 use Rattle.policy.specs.Laws.{Lawful, Total, Transitive, Earlier-first, Reach-range, Reach-rule, Small-reach}
@@ -11,13 +15,6 @@ use Rattle.policy.specs.Order.{reaches}
 use Rattle.policy.specs.declared.job.Reach.the-variants.{Always, Never}
 use Rattle.policy.proofs.Lawfulness.{lawful}
 use Rattle.policy.proofs.Different.{differ}
-use Prim.Native.Nat.{ℕ}
-use lib.IntN.{ℤ}
-use lib.Dec.{eqb, ltb}
-use lib.Signed.{ltZ}
-use mathlib.Core.Bool.{Bool, true, false, cond}
-use mathlib.Core.Path.{refl, sym, _∙_}
-use Rattle.std.proofs.shelf.Tests.{cond-false, ne-eqb}
 
 module _ (s : Task-set) (checked : Checked s) where
   total : Total s (fixed-order s)

@@ -1,20 +1,19 @@
 -- Task i put at rank k by an exchange of two ranks: what stands behind k stays, and the rule goes on from there.
-use Prim.Native.Nat.{ℕ, _+_, _-_, _≤_, _<_}
-use mathlib.Core.Path.{_≡_, refl, sym, ap, subst, _∙_}
+use Prim.Native.Nat.{ℕ, _-_, _≤_, _<_}
+use mathlib.Core.Path.{_≡_, sym, ap, subst, _∙_}
 use mathlib.Core.Logic.{_⊎_, inl, inr}
 use native.Mathlib.Omega.{arith}
-use native.Mathlib.Nat.{le-antisymm}
 use Rattle.std.proofs.shelf.Tests.{cases-eq, cases-lt}
-use Rattle.table.specs.Rules.{Task-set, Checked, task-at, task-count}
+use Rattle.table.specs.Rules.{Task-set, Checked, task-count}
 use Rattle.table.proofs.Ranges.{task-ranges, ranks-apart}
 use Rattle.theory.specs.BusyPeriod.{Busy-period}
 use Rattle.priority.specs.Ordering.{Ordering-of, rank-in}
-use Rattle.priority.specs.Assignment.{Fits, Takes, Filled, Stuck}
+use Rattle.priority.specs.Assignment.{Fits, Takes, Filled}
 use Rattle.priority.specs.Exchange.{exchanged, with-exchanged}
 use Rattle.priority.specs.Steps.{In-time}
 use Rattle.priority.proofs.Pointwise.{Alike, alike-back, same-busy, ordering-alike}
 use Rattle.priority.proofs.Fitting.{Same-placed, time-fits, fits-time, fits-moved}
-use Rattle.priority.proofs.Exchanging.{exchange-checked, exchange-ordering, rank-exchanged, exchanged-first, exchanged-behind, exchanged-low}
+use Rattle.priority.proofs.Exchanging.{exchange-ordering, rank-exchanged, exchanged-first, exchanged-behind, exchanged-low}
 
 -- an order of an order
 pub ordering-more : (s t u : Task-set) → Ordering-of s t → Ordering-of t u → Ordering-of s u
@@ -100,7 +99,3 @@ module _ (t : Task-set) (checked : Checked t) (k i : ℕ) (here : i < task-count
         go : (rank-in u m ≡ k) ⊎ (rank-in u m ≡ k → ⊥) → Takes u L m
         go (inl e) = new (ranks-apart u (order-u .ranks) m i lt (omega (arith, alike-u .count)) (e ∙ sym at-k)) e
         go (inr ne) = let more : k < rank-in t m = placed k (omega arith) m lt-t .1 (omega (arith, ne)) in old more (stays m lt-t more) (filled m lt-t more)
-
--- a task set has one busy period
-pub one-busy : (s : Task-set) (L M : ℕ) → Busy-period s L → Busy-period s M → L ≡ M
-one-busy s L M x y = le-antisymm (x .least M (y .from) (y .solves)) (y .least L (x .from) (x .solves))

@@ -1,12 +1,12 @@
 -- Ranks from 1 to n that are all different leave none of them out.
-use Prim.Native.Nat.{ℕ, zero, suc, _+_, _-_, _≤_, _<_}
-use mathlib.Core.Bool.{Bool, true, false, cond}
-use mathlib.Core.Path.{_≡_, refl, sym, ap, subst, _∙_}
+use Prim.Native.Nat.{ℕ, zero, suc, _-_, _≤_, _<_}
+use mathlib.Core.Bool.{cond}
+use mathlib.Core.Path.{_≡_, sym, ap, _∙_}
 use mathlib.Core.Logic.{_⊎_, inl, inr}
 use native.Mathlib.Omega.{arith}
 use lib.Dec.{eqb, ltb}
 use Rattle.std.proofs.shelf.Tests.{cases-eq, cases-lt, cond-true, cond-false, eq-eqb, ne-eqb, lt-ltb, le-ltb}
-use Rattle.table.specs.Rules.{Task-set, Checked, task-at, task-count}
+use Rattle.table.specs.Rules.{Task-set, Checked, task-count}
 use Rattle.table.proofs.Ranges.{task-ranges, ranks-apart}
 use Rattle.priority.specs.Ordering.{rank-in}
 

@@ -1,13 +1,12 @@
 -- Tasks with exchanged ranks, written one after the other.
 use Prim.Native.Nat.{ℕ, _+_, _-_, _≤_, _<_}
 use mathlib.Core.List.{List, [], _∷_, _++_, map}
-use mathlib.Core.Path.{_≡_, refl, sym, ap, subst, _∙_}
+use mathlib.Core.Path.{_≡_, sym, ap, _∙_}
 use native.Mathlib.Omega.{arith}
 use lib.ListN.{length, length-map, take, set, getD}
 use lib.Seq.{take-all}
 use Rattle.std.proofs.shelf.Lists.{take-more, take-more-set, map-push}
 use Rattle.table.specs.Content.{sporadic}
-use Rattle.table.specs.Sporadic.{Sporadic}
 use Rattle.table.specs.Rules.{Task-set, task-count}
 use Rattle.table.specs.declared.kinds.Mode.{Mode}
 use Rattle.table.specs.declared.kinds.PolicyCode.the-variants.{Fixed}

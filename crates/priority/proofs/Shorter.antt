@@ -1,6 +1,6 @@
 -- Under fixed levels a response depends on which tasks are ahead and which behind alone, and fewer tasks ahead never lengthen it.
-use Prim.Native.Nat.{ℕ, zero, suc, _+_, _-_, _*_, _/_, _≤_, _<_, max}
-use mathlib.Core.Path.{_≡_, refl, sym, ap, subst, _∙_}
+use Prim.Native.Nat.{ℕ, _+_, _-_, _/_, _≤_, _<_, max}
+use mathlib.Core.Path.{_≡_, sym, ap, subst, _∙_}
 use native.Mathlib.Omega.{arith}
 use native.Mathlib.Nat.{add-mul, le-antisymm}
 use Rattle.table.specs.Rules.{Task-set, Checked, task-at, task-count}

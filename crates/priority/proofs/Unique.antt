@@ -7,9 +7,9 @@ use native.Mathlib.Omega.{arith}
 use lib.ListN.{length, getD}
 use Rattle.std.proofs.shelf.Tests.{cases-eq, cases-lt}
 use Rattle.table.specs.Sporadic.{Sporadic}
-use Rattle.table.specs.Rules.{Task-set, Checked, task-at, task-count}
+use Rattle.table.specs.Rules.{Task-set, Checked, task-count}
 use Rattle.table.proofs.Ranges.{task-ranges, ranks-apart}
-use Rattle.priority.specs.Ordering.{Ordering-of, unranked, rank-in}
+use Rattle.priority.specs.Ordering.{unranked, rank-in}
 use Rattle.priority.specs.Assignment.{Fits, Takes, Filled, Stuck, Assigned, Unfilled}
 use Rattle.priority.proofs.Pointwise.{Alike, alike-back, alike-through, ordering-alike}
 use Rattle.priority.proofs.Fitting.{Same-placed, fits-moved}

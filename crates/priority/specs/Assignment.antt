@@ -1,6 +1,6 @@
 -- Priority assignment from the last rank up: each rank takes the highest-numbered task that is left and meets its deadline there.
 use Prim.Native.Nat.{ℕ, _≤_, _<_}
-use mathlib.Core.Bool.{Bool, cond}
+use mathlib.Core.Bool.{cond}
 use mathlib.Core.Logic.{_⊎_}
 use mathlib.Core.Path.{_≡_}
 use lib.Dec.{eqb, ltb}

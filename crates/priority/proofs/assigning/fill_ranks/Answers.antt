@@ -1,5 +1,5 @@
-use Prim.Native.Nat.{ℕ, _+_, _-_, _≤_, _<_}
-use mathlib.Core.Path.{_≡_, refl, sym, ap, subst}
+use Prim.Native.Nat.{_+_, _-_, _≤_}
+use mathlib.Core.Path.{_≡_, refl, sym, subst}
 use native.Mathlib.Omega.{arith}
 use borrow.Author.Needs.{needs}
 use Rattle.analysis.proofs.Filling.{few-tasks}
@@ -7,9 +7,8 @@ use Rattle.table.specs.Model.{content}
 use Rattle.table.specs.Rules.{task-count}
 use Rattle.table.proofs.Tables.{table-checked}
 use Rattle.table.proofs.Ranges.{count-ranges}
-use Rattle.priority.specs.Assignment.{Filled, Stuck}
+use Rattle.priority.specs.Assignment.{Filled}
 use Rattle.priority.specs.Ordering.{Ordering-of}
-use Rattle.priority.specs.Steps.{Judged-busy}
 use Rattle.priority.proofs.Pointwise.{same-busy, ordering-alike}
 use Rattle.priority.proofs.Exchanging.{exchange-ordering}
 use Rattle.priority.proofs.Placing.{ordering-more, none-filled}
@@ -48,10 +47,18 @@ returns-in-rest c = λ L busy.
     let s = content (c .args .table .now) in
     let t = content (c .loop-left .order) in
     let k = c .loop-left .left - 1 + 1 in
-    let same : c .loop-left .left ≡ k = omega (arith, c .loop-left-test .taken) in
-    (k, refl, omega arith, omega (arith, c .loop-left .kept .left, c .count-left .ensures, same), (t, c .loop-left .inv .0,
-      subst (λ q. Filled t L q) same (c .loop-left .inv .1 L busy),
-      c .in-rest .ensures tt .taken L (busy .0, same-busy s t L (ordering-alike s t (c .loop-left .inv .0)) (busy .1))))
+    let same : c .loop-left .left ≡ k = omega (arith, c .loop-left-test .taken) in (
+      k,
+      refl,
+      omega arith,
+      omega (arith, c .loop-left .kept .left, c .count-left .ensures, same),
+      (
+        t,
+        c .loop-left .inv .0,
+        subst (λ q. Filled t L q) same (c .loop-left .inv .1 L busy),
+        c .in-rest .ensures tt .taken L (busy .0, same-busy s t L (ordering-alike s t (c .loop-left .inv .0)) (busy .1)),
+      ),
+    )
 
 pub loop-left-again : need.loop-left-again
 loop-left-again c =
@@ -61,6 +68,7 @@ loop-left-again c =
     let k = c .loop-left .left - 1 + 1 in
     let same : c .loop-left .left ≡ k = omega (arith, c .loop-left-test .taken) in
     let less : k - 1 ≡ c .loop-left .left - 1 = omega arith in
-    let found = c .in-Some .ensures tt in
-    (ordering-more s t u (c .loop-left .inv .0) (found .reordered),
-      λ L busy. subst (λ q. Filled u L q) less (found .taken L (busy .0, same-busy s t L (ordering-alike s t (c .loop-left .inv .0)) (busy .1)) (subst (λ q. Filled t L q) same (c .loop-left .inv .1 L busy))))
+    let found = c .in-Some .ensures tt in (
+      ordering-more s t u (c .loop-left .inv .0) (found .reordered),
+      λ L busy. subst (λ q. Filled u L q) less (found .taken L (busy .0, same-busy s t L (ordering-alike s t (c .loop-left .inv .0)) (busy .1)) (subst (λ q. Filled t L q) same (c .loop-left .inv .1 L busy))),
+    )

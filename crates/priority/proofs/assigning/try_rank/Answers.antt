@@ -1,15 +1,12 @@
-use Prim.Native.Nat.{ℕ, _≤_, _<_}
-use mathlib.Core.Bool.{true, false}
-use mathlib.Core.Path.{_≡_, sym, ap, subst, _∙_}
+use Prim.Native.Nat.{_≤_}
+use mathlib.Core.Path.{_≡_, ap, _∙_}
 use native.Mathlib.Omega.{arith}
 use Rattle.std.proofs.shelf.Tests.{both-ways}
 use Rattle.table.specs.Model.{content}
-use Rattle.table.specs.Rules.{Task-set, task-count}
 use Rattle.table.proofs.Tables.{table-checked}
 use Rattle.table.proofs.Ranges.{task-ranges}
 use Rattle.priority.specs.Exchange.{with-exchanged}
 use Rattle.priority.specs.Ordering.{rank-in}
-use Rattle.priority.specs.Steps.{Judged-busy}
 use Rattle.priority.proofs.Placing.{put-fits, put-unfit, put-busy, put-known}
 use Rattle.priority.proofs.assigning.try_rank.Needs as need
 
@@ -35,8 +32,8 @@ returns-then-in-time c =
     record {
       put = (left, is);
       fits = λ L busy.
-        put-fits s (table-checked t) (c .args .rank) i (c .pre .known) left (c .pre .low) (c .pre .high) u is L
-        (c .in-time .ensures L (busy .0, put-busy s (table-checked t) (c .args .rank) i (c .pre .known) left (c .pre .low) (c .pre .high) u is L (busy .1)) (put-known s (table-checked t) (c .args .rank) i (c .pre .known) left (c .pre .low) (c .pre .high) u is) .0 (c .if-in-time .taken));
+          put-fits s (table-checked t) (c .args .rank) i (c .pre .known) left (c .pre .low) (c .pre .high) u is L
+          (c .in-time .ensures L (busy .0, put-busy s (table-checked t) (c .args .rank) i (c .pre .known) left (c .pre .low) (c .pre .high) u is L (busy .1)) (put-known s (table-checked t) (c .args .rank) i (c .pre .known) left (c .pre .low) (c .pre .high) u is) .0 (c .if-in-time .taken));
     }
 
 pub returns-else-in-time : need.returns-else-in-time
@@ -49,6 +46,6 @@ returns-else-in-time c =
     record {
       put = tt;
       fits = λ L busy left.
-        put-unfit s (table-checked t) (c .args .rank) i (c .pre .known) left (c .pre .low) (c .pre .high) u is L
-        (λ all. both-ways (c .in-time .result) (c .if-in-time .left) (c .in-time .ensures L (busy .0, put-busy s (table-checked t) (c .args .rank) i (c .pre .known) left (c .pre .low) (c .pre .high) u is L (busy .1)) (put-known s (table-checked t) (c .args .rank) i (c .pre .known) left (c .pre .low) (c .pre .high) u is) .1 all));
+          put-unfit s (table-checked t) (c .args .rank) i (c .pre .known) left (c .pre .low) (c .pre .high) u is L
+          (λ all. both-ways (c .in-time .result) (c .if-in-time .left) (c .in-time .ensures L (busy .0, put-busy s (table-checked t) (c .args .rank) i (c .pre .known) left (c .pre .low) (c .pre .high) u is L (busy .1)) (put-known s (table-checked t) (c .args .rank) i (c .pre .known) left (c .pre .low) (c .pre .high) u is) .1 all));
     }

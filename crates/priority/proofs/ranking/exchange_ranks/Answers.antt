@@ -1,12 +1,8 @@
-use Prim.Native.Nat.{_≤_, _<_, _-_}
-use mathlib.Core.Bool.{true, false}
-use mathlib.Core.List.{map}
-use mathlib.Core.Path.{_≡_, sym, ap, _∙_}
+use Prim.Native.Nat.{_≤_}
+use mathlib.Core.Path.{sym, ap, _∙_}
 use native.Mathlib.Omega.{arith}
 use borrow.Author.Needs.{needs}
-use lib.ListN.{length, take}
 use Rattle.std.proofs.shelf.Tests.{both-ways}
-use Rattle.table.specs.Content.{sporadic}
 use Rattle.table.specs.Model.{content}
 use Rattle.table.specs.Rules.{Task-set, Checked, follows-rules}
 use Rattle.table.proofs.Tables.{table-checked}
