@@ -1,8 +1,12 @@
 -- The order of fixed priorities is lawful.
-use mathlib.Core.Path.{_≡_}
+use mathlib.Core.Path.{_≡_, refl, sym, _∙_}
 use native.Mathlib.Omega.{arith}
+use lib.Dec.{eqb, ltb}
+use lib.Signed.{ltZ}
+use mathlib.Core.Bool.{Bool, true, false, cond}
 use Rattle.std.proofs.shelf.Signed.{ints}
 use Rattle.std.proofs.shelf.Ways.{tells}
+use Rattle.std.proofs.shelf.Tests.{cond-false, ne-eqb}
 use Rattle.table.specs.Rules.{Task-set, Checked, task-at}
 use Rattle.table.proofs.Ranges.{ranks-apart}
 use Rattle.policy.specs.Laws.{Lawful, Total, Transitive, Earlier-first, Reach-range, Reach-rule, Small-reach}

@@ -3,7 +3,6 @@ use Prim.Native.Nat.{ℕ, _-_, _≤_, _<_}
 use mathlib.Core.Path.{_≡_, sym, ap, subst, _∙_}
 use mathlib.Core.Logic.{_⊎_, inl, inr}
 use native.Mathlib.Omega.{arith}
-use native.Mathlib.Nat.{le-antisymm}
 use Rattle.std.proofs.shelf.Tests.{cases-eq, cases-lt}
 use Rattle.table.specs.Rules.{Task-set, Checked, task-count}
 use Rattle.table.proofs.Ranges.{task-ranges, ranks-apart}
@@ -100,7 +99,3 @@ module _ (t : Task-set) (checked : Checked t) (k i : ℕ) (here : i < task-count
         go : (rank-in u m ≡ k) ⊎ (rank-in u m ≡ k → ⊥) → Takes u L m
         go (inl e) = new (ranks-apart u (order-u .ranks) m i lt (omega (arith, alike-u .count)) (e ∙ sym at-k)) e
         go (inr ne) = let more : k < rank-in t m = placed k (omega arith) m lt-t .1 (omega (arith, ne)) in old more (stays m lt-t more) (filled m lt-t more)
-
--- a task set has one busy period
-pub one-busy : (s : Task-set) (L M : ℕ) → Busy-period s L → Busy-period s M → L ≡ M
-one-busy s L M x y = le-antisymm (x .least M (y .from) (y .solves)) (y .least L (x .from) (x .solves))

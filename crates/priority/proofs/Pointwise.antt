@@ -1,7 +1,7 @@
 -- Two task sets with the same tasks but for their ranks have the same costs, periods and deadlines.
 use Prim.Native.Nat.{ℕ, zero, suc, _*_}
 use mathlib.Core.List.{List, [], _∷_, map}
-use mathlib.Core.Path.{_≡_, refl, sym, ap, _∙_}
+use mathlib.Core.Path.{_≡_, refl, sym, ap, subst, _∙_}
 use lib.ListN.{length, length-map, getD}
 use Rattle.table.specs.Sporadic.{Sporadic}
 use Rattle.table.specs.Rules.{Task-set, task-at, task-count}
@@ -10,7 +10,6 @@ use Rattle.theory.specs.LeastSolution.{Least-solution}
 use Rattle.theory.specs.Sums.{sum-below}
 use Rattle.theory.proofs.Sums.{sum-cong}
 use Rattle.priority.specs.Ordering.{Ordering-of, unranked}
-use mathlib.Core.Path.{subst}
 
 -- all that a response depends on, ranks apart
 pub record Alike (s t : Task-set) : Type 0 where

@@ -1,9 +1,8 @@
 //! Audsley's assignment: the ranks from the last one up, each by the highest-numbered task left that meets its deadline there.
 ghost use Prim.Native.Nat.{ℕ, _+_, _≤_, _<_};
-ghost use mathlib.Core.Path.{_≡_};
 ghost use Rattle.std.specs.Orderings.{Decides};
 ghost use Rattle.table.specs.Model.{content};
-ghost use Rattle.table.specs.Rules.{task-at, task-count};
+ghost use Rattle.table.specs.Rules.{task-count};
 ghost use Rattle.priority.specs.Assignment.{Outcome};
 ghost use Rattle.priority.specs.Steps.{Judged-busy, In-time, Put, Tried, Reordered, Taken, Ranked};
 use crate::ranking::exchange_ranks;
