@@ -30,7 +30,7 @@ all-at (suc n) p h k lt = let parts = and-parts (p n) (all-below n p) h in go (c
     go (inl e) here there = subst (λ z. p z ≡ true) (sym e) here
     go (inr ne) here there = there (omega (arith, ne))
 
-least-found : (low : ℕ) (W : ℕ → ℕ) (t : ℕ) → least-is low W t ≡ true → Least-solution low W t
+pub least-found : (low : ℕ) (W : ℕ → ℕ) (t : ℕ) → least-is low W t ≡ true → Least-solution low W t
 least-found low W t h =
     let one = and-parts (leb low t) (eqb t (W t) && all-below t (λ v. ltb v low || not (eqb v (W v)))) h in
     let two = and-parts (eqb t (W t)) (all-below t (λ v. ltb v low || not (eqb v (W v)))) (one .1) in

@@ -11,7 +11,7 @@ use Rattle.table.specs.declared.kinds.PolicyCode.the-variants.{Fixed, Deadline,
 use Rattle.policy.specs.Order.{Order}
 use Rattle.policy.specs.Orders.{fixed-order, deadline-order, arrival-order, bands-order}
 use Rattle.theory.specs.BusyPeriod.{Overloaded}
-use Rattle.vectors.specs.Lines.{Admitted-as, Late-as}
+use Rattle.vectors.specs.Lines.{Admitted-as, Late-as, Assigned-as, Unfilled-as}
 
 -- C, T, D and rank
 abbrev pub task : ℕ → ℕ → ℕ → ℕ → Sporadic
@@ -53,3 +53,5 @@ pub record Reference-tables : Type 0 where
   pub bands : Admitted-as by-bands three-in-bands 7 ((1, 0) ∷ (3, 3) ∷ (6, 0) ∷ [])
   pub full : Admitted-as by-rank (one (task 1 1 1 1)) 1 ((1, 0) ∷ [])
   pub overloaded : Overloaded (two Fixed Preemptive (task 1 1 1 1) (task 1 2 2 2))
+  pub priorities-preemptive : Unfilled-as (two Fixed Preemptive (task 2 5 5 1) (task 4 7 7 2)) 14 2
+  pub priorities-non-preemptive : Assigned-as (two Fixed NonPreemptive (task 2 5 5 1) (task 4 7 7 2)) (two Fixed NonPreemptive (task 2 5 5 1) (task 4 7 7 2)) 14

@@ -9,6 +9,7 @@ use Rattle.theory.specs.BusyPeriod.{Overloaded}
 use Rattle.vectors.specs.Tables.{task, two}
 use Rattle.vectors.proofs.Checks.{all-below, climb, window, window-is, response, rows-are, line-is, all-meet}
 use Rattle.vectors.proofs.Sound.{admitted, late}
+use Rattle.vectors.proofs.Placed.{none-admitted, in-order}
 use Rattle.vectors.proofs.reference_tables_stand.Needs as need
 
 too-much : Overloaded (two Fixed Preemptive (task 1 1 1 1) (task 1 2 2 2))
@@ -30,4 +31,6 @@ returns c = record {
   bands = admitted _ _ _ _ refl refl;
   full = admitted _ _ _ _ refl refl;
   overloaded = too-much;
+  priorities-preemptive = none-admitted;
+  priorities-non-preemptive = in-order;
 }
