@@ -1,11 +1,11 @@
 -- The task that a station picks has the job that the reference machine runs as its first.
-use Prim.Native.Nat.{ℕ, suc, _+_, _≤_, _<_}
-use mathlib.Core.Bool.{Bool, true, false, cond, not, _&&_}
+use Prim.Native.Nat.{ℕ, _≤_, _<_}
+use mathlib.Core.Bool.{true, false, _&&_}
 use mathlib.Core.List.{List, [], _∷_}
 use mathlib.Core.Path.{_≡_, refl, sym, ap, subst, _∙_}
 use mathlib.Core.Logic.{_⊎_, inl, inr}
 use native.Mathlib.Omega.{arith}
-use lib.Dec.{eqb, leb}
+use lib.Dec.{eqb}
 use lib.IntN.{pos}
 use Rattle.std.proofs.shelf.Tests.{cases-bool, both-ways, cases-eq, or-cases, leb-true, leb-false}
 use Rattle.std.specs.declared.option.Option.{Option}
@@ -17,13 +17,13 @@ use Rattle.policy.specs.Answers.{ahead-answer}
 use Rattle.policy.specs.Laws.{Lawful}
 use Rattle.policy.specs.Order.{Order, job}
 use Rattle.theory.specs.Lists.{In}
-use Rattle.theory.specs.Machine.{Work, State, same-work, begun, waiting, job-to-run}
-use Rattle.theory.proofs.Choice.{Choice, nobody, leader, kept, choice, front}
-use Rattle.theory.proofs.MachineFacts.{Facts, facts-apart, waits-of, waits-in, all-known-waiting}
+use Rattle.theory.specs.Machine.{Work, State, same-work, begun, waiting}
+use Rattle.theory.proofs.Choice.{Choice, nobody, leader, kept, front}
+use Rattle.theory.proofs.MachineFacts.{Facts, facts-apart, waits-of, waits-in}
 use Rattle.theory.proofs.Orders.{leads-own-only, leads}
 use Rattle.theory.proofs.Search.{none-some, some-same}
-use Rattle.theory.proofs.Works.{same-one, same-from}
-use Rattle.dispatch.specs.Leading.{first-release, head, Leading, Leads, Picked}
+use Rattle.theory.proofs.Works.{same-one}
+use Rattle.dispatch.specs.Leading.{first-release, Leads, Picked}
 use Rattle.dispatch.specs.Represents.{ran-first, Fits}
 use Rattle.dispatch.specs.Summaries.{Summary, Pending, summed}
 use Rattle.dispatch.specs.declared.stage.Stage.{Stage}

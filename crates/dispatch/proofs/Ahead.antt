@@ -1,21 +1,19 @@
 -- What a policy's answers say of two first jobs, and the leading one along a loop.
 use Prim.Native.Nat.{ℕ, _+_, _≤_, _<_}
 use mathlib.Core.Bool.{Bool, true, false, cond, not, _&&_}
-use mathlib.Core.List.{List, [], _∷_}
 use mathlib.Core.Path.{_≡_, refl, sym, ap, subst, _∙_}
 use mathlib.Core.Logic.{_⊎_, inl, inr}
 use native.Mathlib.Omega.{arith}
 use borrow.Author.Count.{below-more}
-use lib.Dec.{eqb, ltb, leb}
+use lib.Dec.{eqb}
 use lib.IntN.{pos}
-use lib.Signed.{leZ}
 use Rattle.std.proofs.shelf.Ways.{tells}
 use Rattle.std.proofs.shelf.Signed.{ints}
-use Rattle.std.proofs.shelf.Tests.{cases-bool, both-ways, cond-true, cond-false, and-parts, and-from, eqb-true, eq-eqb, not-true, not-from-false, cases-lt}
+use Rattle.std.proofs.shelf.Tests.{cases-bool, both-ways, and-parts, and-from, eqb-true, eq-eqb}
 use Rattle.std.specs.declared.option.Option.{Option}
 use Rattle.std.specs.declared.option.Option.the-variants.{Some, None}
 use Rattle.table.specs.Rules.{Task-set, task-count}
-use Rattle.policy.specs.Answers.{ahead-answer, comparable, same-job, on-clock}
+use Rattle.policy.specs.Answers.{ahead-answer, comparable}
 use Rattle.policy.specs.Laws.{Lawful}
 use Rattle.policy.specs.Order.{Order, job}
 use Rattle.policy.specs.declared.job.Job.{Job}

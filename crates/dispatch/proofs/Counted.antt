@@ -1,14 +1,14 @@
 -- The counts that the machine looks up are those of the summary.
 use Prim.Native.Nat.{ℕ, _+_, max}
 use mathlib.Core.Bool.{Bool, true, false, cond, not}
-use mathlib.Core.List.{List, [], _∷_, _++_}
+use mathlib.Core.List.{List, [], _∷_}
 use mathlib.Core.Path.{_≡_, refl, ap}
 use native.Mathlib.Omega.{arith}
 use lib.Dec.{ltb}
 use lib.ListN.{length, length-append}
 use Rattle.table.specs.Rules.{Task-set, task-at}
 use Rattle.theory.specs.Lists.{those, how-many, greatest}
-use Rattle.theory.specs.Machine.{Work, State, Counts, of-task, waits, counted}
+use Rattle.theory.specs.Machine.{Work, State, of-task, waits, counted}
 use Rattle.dispatch.specs.Summaries.{Summary, newer, summed, pending, counts-of}
 
 module _ (s : Task-set) (j : ℕ) where

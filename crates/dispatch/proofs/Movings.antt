@@ -1,13 +1,13 @@
 -- A station in which the first job of a task has run.
-use Prim.Native.Nat.{ℕ, _+_, _-_, _≤_, _<_}
-use mathlib.Core.Bool.{Bool, true, false, cond}
-use mathlib.Core.List.{List, [], _∷_}
-use mathlib.Core.Path.{_≡_, refl, sym, ap, subst, _∙_}
+use Prim.Native.Nat.{ℕ, _-_}
+use mathlib.Core.Bool.{Bool}
+use mathlib.Core.List.{List, _∷_}
+use mathlib.Core.Path.{_≡_, sym, ap, subst, _∙_}
 use Rattle.std.specs.declared.option.Option.{Option}
-use Rattle.std.specs.declared.option.Option.the-variants.{Some, None}
+use Rattle.std.specs.declared.option.Option.the-variants.{Some}
 use Rattle.table.specs.Content.{sporadic}
 use Rattle.table.specs.Model.{content}
-use Rattle.table.specs.Rules.{task-at, task-count}
+use Rattle.table.specs.Rules.{task-at}
 use Rattle.theory.proofs.Search.{none-some, some-same}
 use Rattle.dispatch.specs.Advanced.{Advanced, Moves, stage-after, outcome-of, told-of}
 use Rattle.dispatch.specs.Fronts.{Fronted}

@@ -1,14 +1,12 @@
 -- The waiting jobs of a line, as its array of releases has them.
 use Prim.Native.Nat.{ℕ, zero, suc, _+_, _-_, _≤_, _<_}
-use mathlib.Core.Bool.{Bool, true, false}
 use mathlib.Core.List.{List, [], _∷_, _++_, map}
-use mathlib.Core.Path.{_≡_, refl, sym, ap, _∙_}
-use mathlib.Core.Logic.{_⊎_, inl, inr}
+use mathlib.Core.Path.{_≡_, refl, ap, _∙_}
 use native.Mathlib.Omega.{arith}
 use lib.ListN.{length, length-map, take, getD, set}
 use lib.Seq.{length-take-le, take-append-le}
 use Rattle.std.proofs.shelf.Lists.{take-more-set}
-use Rattle.std.specs.declared.option.Option.the-variants.{Some, None}
+use Rattle.std.specs.declared.option.Option.the-variants.{Some}
 use Rattle.theory.specs.Lists.{In}
 use Rattle.theory.proofs.Search.{from-map}
 use Rattle.dispatch.specs.Leading.{first-release}

@@ -1,17 +1,17 @@
 -- A tick of the first waiting job of a task, in the machine's list and in the summary.
-use Prim.Native.Nat.{ℕ, _+_, _-_, _≤_, _<_, max}
+use Prim.Native.Nat.{ℕ, _+_, _-_, max}
 use mathlib.Core.Bool.{Bool, true, false, cond, _&&_, _||_}
 use mathlib.Core.List.{List, [], _∷_, _++_, map}
 use mathlib.Core.Path.{_≡_, refl, sym, ap, subst, _∙_}
 use mathlib.Core.Logic.{_⊎_, inl, inr}
 use native.Mathlib.Omega.{arith}
 use lib.Dec.{eqb, leb, ltb}
-use Rattle.std.proofs.shelf.Tests.{cases-bool, both-ways, cond-true, cond-false, eqb-true, eq-eqb}
+use Rattle.std.proofs.shelf.Tests.{cases-bool, both-ways, eqb-true}
 use Rattle.table.specs.Rules.{Task-set, task-at}
 use Rattle.table.specs.Sporadic.{Sporadic}
 use Rattle.theory.specs.Lists.{In}
 use Rattle.theory.specs.Machine.{Work, of-task, same-work, run-one, ends}
-use Rattle.theory.proofs.Works.{Apart, given, given-same, given-other, given-task, same-facts, same-from, same-swap}
+use Rattle.theory.proofs.Works.{Apart, given, given-same, given-other, given-task, same-facts, same-from}
 use Rattle.dispatch.specs.Summaries.{Summary, Pending, pending, newer, summed, moved, ends-now}
 use Rattle.dispatch.proofs.Sources.{pending-of, summed-mine, summed-other, waiting-open, waiting-over, waiting-other, Source, from-waiting}
 

@@ -1,15 +1,13 @@
 -- What a station's own facts give.
-use Prim.Native.Nat.{ℕ, zero, suc, _+_, _≤_, _<_}
+use Prim.Native.Nat.{ℕ, zero, suc, _+_, _<_}
 use mathlib.Core.List.{List, [], _∷_, _++_, map}
-use mathlib.Core.Logic.{_≢_}
 use mathlib.Core.Path.{_≡_, refl, sym, ap, subst, _∙_}
 use native.Mathlib.Omega.{arith}
 use lib.ListN.{length, length-map, getD, set, replicate, take}
 use lib.Seq.{getD-set-same, getD-set-other, map-set}
 use Rattle.std.proofs.shelf.Lists.{getD-map}
 use Rattle.table.specs.Model.{content}
-use Rattle.table.specs.Rules.{task-at, task-count}
-use Rattle.table.specs.declared.checked.Table.{Table}
+use Rattle.table.specs.Rules.{task-count}
 use Rattle.table.proofs.Tables.{table-checked}
 use Rattle.table.proofs.Ranges.{count-ranges}
 use Rattle.policy.specs.Order.{Order}

@@ -1,20 +1,18 @@
 -- A station that has answered some calls, one call later.
 use Prim.Native.Nat.{ℕ, _+_, _-_, _≤_, _<_}
 use mathlib.Core.Bool.{Bool, true, false, cond, _&&_, _||_}
-use mathlib.Core.List.{List, [], _∷_, _++_, map}
+use mathlib.Core.List.{List, [], _∷_, _++_}
 use mathlib.Core.Path.{_≡_, refl, sym, ap, subst, _∙_}
 use mathlib.Core.Logic.{_⊎_, inl, inr}
 use native.Mathlib.Omega.{arith}
-use lib.Dec.{eqb, leb, ltb}
+use lib.Dec.{leb, ltb}
 use lib.ListN.{length}
 use Rattle.std.proofs.shelf.Ways.{tells}
-use Rattle.std.proofs.shelf.Tests.{cases-bool, both-ways, cases-eq, cond-true, cond-false, ne-eqb}
+use Rattle.std.proofs.shelf.Tests.{cases-eq, cond-true, cond-false, ne-eqb}
 use Rattle.std.specs.declared.option.Option.{Option}
 use Rattle.std.specs.declared.option.Option.the-variants.{Some, None}
 use Rattle.table.specs.Rules.{Task-set, Checked, task-at, task-count}
-use Rattle.table.specs.Sporadic.{Sporadic}
-use Rattle.table.specs.declared.kinds.Mode.{Mode}
-use Rattle.table.specs.declared.kinds.Mode.the-variants.{NonPreemptive, Preemptive}
+use Rattle.table.specs.declared.kinds.Mode.the-variants.{NonPreemptive}
 use Rattle.table.specs.declared.refusal.Refusal.{Refusal}
 use Rattle.table.specs.declared.refusal.Refusal.the-variants.{NoTaskToRun, TooSoon, QueueFull, TimeOver}
 use Rattle.policy.specs.Answers.{ahead-answer}
@@ -31,10 +29,9 @@ use Rattle.dispatch.specs.Advanced.{Advanced, Moves, Stays, stage-after, outco
 use Rattle.dispatch.specs.Leading.{Picked}
 use Rattle.dispatch.specs.Replies.{ticked-told}
 use Rattle.dispatch.specs.Represents.{Represents, Fits, ran-first}
-use Rattle.dispatch.specs.Summaries.{Summary, Pending, pending, summed, newer, joined, moved, ends-now, counts-of}
+use Rattle.dispatch.specs.Summaries.{Summary, Pending, pending, summed, joined, moved, ends-now, counts-of}
 use Rattle.dispatch.specs.declared.replies.Ticked.{Ticked}
-use Rattle.dispatch.specs.declared.replies.Ticked.the-variants as ticked
-use Rattle.dispatch.specs.declared.stage.Outcome.the-variants.{Idled, Went, Ended}
+use Rattle.dispatch.specs.declared.stage.Outcome.the-variants.{Idled}
 use Rattle.dispatch.specs.declared.stage.Stage.{Stage}
 use Rattle.dispatch.specs.declared.stage.Stage.the-variants.{Idle, Begun}
 use Rattle.dispatch.proofs.Agreement.{Plain, First, Same, agree, nobody-fits}

@@ -1,6 +1,6 @@
 //! A run: a policy beside a station.
-ghost use Prim.Native.Nat.{ℕ, _+_, _≤_, _<_};
-ghost use mathlib.Core.List.{List, [], _∷_, _++_};
+ghost use Prim.Native.Nat.{_<_};
+ghost use mathlib.Core.List.{[]};
 ghost use mathlib.Core.Path.{_≡_};
 ghost use Rattle.std.specs.Results.{Cases};
 ghost use Rattle.table.specs.Model.{content};

@@ -4,14 +4,12 @@ ghost use mathlib.Core.Bool.{true, false, cond};
 ghost use mathlib.Core.List.{List, _∷_};
 ghost use mathlib.Core.Path.{_≡_};
 ghost use lib.Dec.{leb, ltb};
-ghost use lib.ListN.{length};
 ghost use Rattle.std.specs.Options.{Cases as BySome};
 ghost use Rattle.table.specs.Content.{sporadic};
 ghost use Rattle.table.specs.Sporadic.{Sporadic};
 ghost use Rattle.dispatch.specs.Lines.{line-summary};
 ghost use Rattle.dispatch.specs.Leading.{first-release};
-ghost use Rattle.dispatch.specs.Replies.{counts-told};
-ghost use Rattle.dispatch.specs.Summaries.{Pending, no-summary, joined, moved, ends-now, counts-of};
+ghost use Rattle.dispatch.specs.Summaries.{Pending, no-summary, joined, moved, ends-now};
 use super::Line;
 use crate::replies::Counts;
 use table::Task;
@@ -63,8 +61,7 @@ impl Line {
     }
 
     pub(crate) fn is_full(self) -> bool
-        ensures value { λ r. ⌜ r ≡ leb 8 (length (line-summary self .waiting)) ⌝ }
-        ensures room { λ r. ⌜ (r ≡ false → self .len < 8) ⌝ }
+        ensures { λ r. ⌜ r ≡ leb 8 (self .len) ⌝ }
     {
         self.len >= LONGEST_LINE
     }
@@ -137,7 +134,11 @@ impl Line {
     }
 
     pub(crate) fn counts(self) -> Counts
-        ensures { λ r. ⌜ counts-told r ≡ counts-of (line-summary self) ⌝ }
+        ensures accepted { λ r. ⌜ r .accepted ≡ self .finished + self .len ⌝ }
+        ensures finished { λ r. ⌜ r .finished ≡ self .finished ⌝ }
+        ensures waiting { λ r. ⌜ r .waiting ≡ self .len ⌝ }
+        ensures missed { λ r. ⌜ r .missed ≡ self .missed ⌝ }
+        ensures longest { λ r. ⌜ r .longest ≡ self .longest ⌝ }
     {
         let waiting = self.len as u32;
         Counts {

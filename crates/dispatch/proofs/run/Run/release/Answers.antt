@@ -1,4 +1,4 @@
-use mathlib.Core.Path.{_≡_, refl, ap}
+use mathlib.Core.Path.{refl}
 use Rattle.table.specs.Model.{content}
 use Rattle.table.proofs.Tables.{table-checked}
 use Rattle.policy.proofs.Lawfulness.{lawful}

@@ -1,5 +1,5 @@
-use Prim.Native.Nat.{_≤_, _<_, _+_}
-use mathlib.Core.Path.{_≡_, refl, sym, ap, subst}
+use Prim.Native.Nat.{_<_}
+use mathlib.Core.Path.{refl, sym, subst}
 use Rattle.std.proofs.shelf.Tests.{leb-true, leb-false}
 use Rattle.table.specs.Model.{content}
 use Rattle.table.proofs.Tables.{table-checked}

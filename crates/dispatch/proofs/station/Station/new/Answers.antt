@@ -1,5 +1,4 @@
-use mathlib.Core.Path.{refl, sym, ap, _∙_}
-use Rattle.table.specs.Model.{content}
+use mathlib.Core.Path.{refl, ap}
 use Rattle.theory.specs.Machine.{play}
 use Rattle.dispatch.specs.Represents.{ran-first}
 use Rattle.dispatch.specs.Summaries.{Summary, summed}

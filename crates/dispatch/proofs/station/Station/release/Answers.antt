@@ -1,17 +1,17 @@
-use Prim.Native.Nat.{_≤_, _<_}
 use mathlib.Core.Bool.{true, false}
 use mathlib.Core.Path.{_≡_, refl, sym, ap, _∙_}
 use native.Mathlib.Omega.{arith}
 use lib.Dec.{leb, ltb}
 use lib.ListN.{length}
-use Rattle.std.proofs.shelf.Tests.{ltb-false}
+use Rattle.std.proofs.shelf.Tests.{leb-false, ltb-false}
 use Rattle.table.specs.Model.{content}
-use Rattle.table.specs.Rules.{task-at, task-count}
+use Rattle.table.specs.Rules.{task-at}
 use Rattle.table.specs.Sporadic.{Sporadic}
 use Rattle.table.proofs.Tables.{table-checked}
 use Rattle.table.proofs.Ranges.{task-ranges}
 use Rattle.dispatch.specs.Lines.{board, line-summary}
 use Rattle.dispatch.specs.Summaries.{Summary, joined}
+use Rattle.dispatch.proofs.Queues.{line-long}
 use Rattle.dispatch.proofs.Stations.{answered-put}
 use Rattle.dispatch.proofs.Ties.{release-unknown, release-soon, release-full, release-free}
 use Rattle.dispatch.proofs.station.Station.release.Needs as need
@@ -46,7 +46,7 @@ returns-then-is-full c = record {
     let d = c .args .self .now in
     let found = c .in-Some .ensures tt in
     let soon : ltb (d .time) (board (d .lines) (c .args .task) .free) ≡ false = ap (λ (u : Summary). ltb (d .time) (u .free)) (sym (c .line-line .ensures)) ∙ sym (c .if-is-soon .ensures tt) in
-    let full : leb 8 (length (board (d .lines) (c .args .task) .waiting)) ≡ true = ap (λ (u : Summary). leb 8 (length (u .waiting))) (sym (c .line-line .ensures)) ∙ sym (c .if-is-full .ensures tt .value) in
+    let full : leb 8 (length (board (d .lines) (c .args .task) .waiting)) ≡ true = ap (λ (u : Summary). leb 8 (length (u .waiting))) (sym (c .line-line .ensures)) ∙ ap (leb 8) (line-long (c .line-line .result)) ∙ sym (c .if-is-full .ensures tt) in
     let n = release-full (content (d .table)) o calls (d .time) (board (d .lines)) (d .stage) rep (table-checked (d .table)) law (c .args .task) (found .0) soon full in
     (n .stands, n .tells);
 }
@@ -58,7 +58,7 @@ push-requires c κs =
     let r = task-ranges (content (d .table)) (table-checked (d .table)) (c .args .task) (found .0) in
     let same = ap (λ (t : Sporadic). t .period) (found .1) in
     record {
-      room = c .if-is-full .ensures tt .room refl;
+      room = leb-false 8 (c .line-line .result .len) (sym (c .if-is-full .ensures tt));
       free = ltb-false (d .time) (c .line-line .result .free) (sym (c .if-is-soon .ensures tt));
       clock = d .clock;
       low = omega (arith, same, r .period-low);
@@ -76,7 +76,7 @@ returns c = record {
     let s = content (d .table) in
     let found = c .in-Some .ensures tt in
     let soon : ltb (d .time) (board (d .lines) j .free) ≡ false = ap (λ (u : Summary). ltb (d .time) (u .free)) (sym (c .line-line .ensures)) ∙ sym (c .if-is-soon .ensures tt) in
-    let full : leb 8 (length (board (d .lines) j .waiting)) ≡ false = ap (λ (u : Summary). leb 8 (length (u .waiting))) (sym (c .line-line .ensures)) ∙ sym (c .if-is-full .ensures tt .value) in
+    let full : leb 8 (length (board (d .lines) j .waiting)) ≡ false = ap (λ (u : Summary). leb 8 (length (u .waiting))) (sym (c .line-line .ensures)) ∙ ap (leb 8) (line-long (c .line-line .result)) ∙ sym (c .if-is-full .ensures tt) in
     let here : board (e .lines) j ≡ joined (task-at s j) (d .time) (board (d .lines) j) = c .put .ensures .here ∙ c .push .ensures ∙ ap (λ t. joined t (d .time) (line-summary (c .line-line .result))) (found .1) ∙ ap (λ u. joined (task-at s j) (d .time) u) (c .line-line .ensures) in
     answered-put d e j (line-summary (c .push .result)) o calls _ (c .put .ensures) (release-free s o calls (d .time) (board (d .lines)) (d .stage) rep (table-checked (d .table)) law j (found .0) (board (e .lines)) here (c .put .ensures .others) soon full);
 }

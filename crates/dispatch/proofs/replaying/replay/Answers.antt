@@ -1,19 +1,19 @@
-use Prim.Native.Nat.{_+_, _≤_, _<_}
+use Prim.Native.Nat.{_≤_, _<_}
 use mathlib.Core.List.{[]}
-use mathlib.Core.Path.{_≡_, refl, sym, ap, subst, _∙_}
+use mathlib.Core.Path.{refl, sym, subst, _∙_}
 use native.Mathlib.Omega.{arith}
-use lib.ListN.{length, getD, take}
+use lib.ListN.{length, getD}
 use Rattle.table.specs.Model.{content}
 use Rattle.theory.specs.Machine.{answers, start}
-use Rattle.dispatch.specs.Replayed.{calls-of, answers-in}
+use Rattle.dispatch.specs.Replayed.{calls-of}
 use Rattle.dispatch.specs.Replies.{call-of, reply-told}
 use Rattle.dispatch.specs.Represents.{Answered, Answers}
 use Rattle.table.specs.declared.refusal.Refusal.the-variants.{Ended}
 use Rattle.dispatch.specs.declared.replies.Event.the-variants.{Release}
 use Rattle.dispatch.specs.declared.replies.Reply.the-variants.{Refused}
 use Rattle.dispatch.specs.declared.replies.Step.{Step}
-use Rattle.dispatch.proofs.Replays.{Replayed, replayed-none, replayed-all, replay-step}
-use Rattle.dispatch.proofs.replay.replay.Needs as need
+use Rattle.dispatch.proofs.Replays.{replayed-none, replayed-all, replay-step}
+use Rattle.dispatch.proofs.replaying.replay.Needs as need
 
 -- what a read past the end would give
 abbrev no-step : Step

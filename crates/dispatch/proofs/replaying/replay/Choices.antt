@@ -4,7 +4,7 @@ use Rattle.table.specs.Model.{content}
 use Rattle.dispatch.specs.Replayed.{calls-of}
 use Rattle.dispatch.specs.Represents.{Answered}
 use Rattle.dispatch.proofs.Replays.{Replayed}
-use Rattle.dispatch.proofs.replay.replay.Given as given
+use Rattle.dispatch.proofs.replaying.replay.Given as given
 
 abbrev pub Inv-loop-at : given.InvT-loop-at
 Inv-loop-at g l =

@@ -1,5 +1,4 @@
 //! Playing a list of calls on a fresh run.
-ghost use mathlib.Core.List.{map};
 ghost use mathlib.Core.Path.{_≡_};
 ghost use Rattle.table.specs.Model.{content};
 ghost use Rattle.theory.specs.Machine.{answers, start};
