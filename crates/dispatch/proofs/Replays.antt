@@ -71,8 +71,7 @@ pub replay-step : (t : Table) (o : Order) (before after : List Step) (n : ℕ) (
     → Answered o e (calls-of (take (n + 1) before)) × Replayed (content t) o before (set after n x) (n + 1)
 replay-step t o before after n d e x q here long same read makes answered so-far =
     let r = makes (calls-of (take n before)) answered in
-    let known : x .call ≡ getD before n q .call = read ∙ ap (λ (p : Step). p .call) (next-same (content t) o before after n here long so-far q) in
-    (
+    let known : x .call ≡ getD before n q .call = read ∙ ap (λ (p : Step). p .call) (next-same (content t) o before after n here long so-far q) in (
       subst (Answered o e) (sym (calls-more (content t) o before after n here long so-far x q known)) (r .0),
       replayed-more (content t) o before after n here long so-far x q known (r .1 ∙ ap (λ u. answer (content u) o (play (content u) o start (calls-of (take n before))) (call-of (x .call))) same),
     )

@@ -204,10 +204,10 @@ module _ (s : Task-set) (o : Order) where
           runs = (
             record { time = later-is; lines = λ k lt. line k lt (cases-eq k i); stage = λ m. subst (λ at. Fits at (task-count s) d) (sym (mv .stage ∙ ap (λ n. stage-after n stage (outcome-of over i)) m)) (fits m over (mv .here)) },
             ap ticked-told (mv .told)
-            ∙ told-both over i (x .release) (time + 1)
-            ∙ ap (λ v. cond v (machine.Finished i (x .release) (time + 1 - x .release)) (machine.Ran i (x .release))) over-is
-            ∙ ap (λ j. cond (ends s done x) (machine.Finished j (x .release) (time + 1 - x .release)) (machine.Ran j (x .release))) (sym (first .mine))
-            ∙ ap (λ n. cond (ends s done x) (machine.Finished (x .task) (x .release) (n - x .release)) (machine.Ran (x .task) (x .release))) later-is,
+                ∙ told-both over i (x .release) (time + 1)
+                ∙ ap (λ v. cond v (machine.Finished i (x .release) (time + 1 - x .release)) (machine.Ran i (x .release))) over-is
+                ∙ ap (λ j. cond (ends s done x) (machine.Finished j (x .release) (time + 1 - x .release)) (machine.Ran j (x .release))) (sym (first .mine))
+                ∙ ap (λ n. cond (ends s done x) (machine.Finished (x .task) (x .release) (n - x .release)) (machine.Ran (x .task) (x .release))) later-is,
           )
 
         both : (r : Option Work) → Choice (s .mode) o (waiting (play s o start calls)) r → (c : Option ℕ) → chosen ≡ c → Same s o checked law (play s o start calls) facts soon b (rep .lines) plain r c → Moved r
