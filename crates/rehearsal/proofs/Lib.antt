@@ -1,0 +1,3 @@
+pub mod Seeing
+pub mod Steps
+pub mod Promise
