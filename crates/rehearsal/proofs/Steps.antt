@@ -12,9 +12,11 @@ use Rattle.table.specs.Model.{content}
 use Rattle.table.specs.Rules.{Task-set, task-count}
 use Rattle.policy.specs.Order.{Order}
 use Rattle.theory.specs.Machine.{Call, Answer, release, tick, start, play, answer, answers, or-else}
-use Rattle.theory.specs.Course.{releases-at, releases-below, course-until}
+use Rattle.theory.specs.Course.{lead, releases-at, releases-below, course-until}
+use Rattle.courses.specs.declared.course.Course.{Course}
 use Rattle.dispatch.specs.Represents.{Answered, Answers}
 use Rattle.dispatch.specs.declared.station.Station.{Station}
+use Rattle.rehearsal.specs.Rehearsed.{shown}
 use Rattle.rehearsal.specs.Seen.{seen, told-by}
 use Rattle.rehearsal.proofs.Seeing.{releases-more, course-more, seen-tick}
 
@@ -61,3 +63,13 @@ module _ (s : Task-set) (o : Order) where
       played = subst (λ zs. Answered o e zs) (sym (ap (course-until s o k a) (add-one t) ∙ course-more k arrival s o k a t)) h;
       saw = is ∙ ap (λ q. or-else q got) tells ∙ ap (or-else (told-by k arrival (answer s o (play s o start (course-until s o k a t ++ releases-below s o k a t (task-count s))) (tick false)))) (so-far .saw) ∙ sym (seen-tick k arrival s o k a t) ∙ ap (λ m. seen k arrival (answers s o start (course-until s o k a m))) (sym (add-one t));
     }
+
+  -- a course that is played to its end shows what the worst course shows
+  pub shown-is : (c : Course) (i a r end : ℕ) → c .task ≡ i → c .offset ≡ a → c .lead .ticks ≡ lead s o (c .task) (c .offset) → end ≡ (c .lead .ticks + c .offset) + r
+      → seen (c .task) (c .lead .ticks + c .offset) (answers s o start (course-until s o (c .task) (c .offset) end)) ≡ shown s o i a r
+  shown-is c i a r end of-task at-offset ticks ends =
+      let arrives : c .lead .ticks + c .offset ≡ lead s o i a + a = ap (λ x. x + c .offset) ticks ∙ ap (λ k. lead s o k (c .offset) + c .offset) of-task ∙ ap (λ b. lead s o i b + b) at-offset in
+      ap (λ k. seen k (c .lead .ticks + c .offset) (answers s o start (course-until s o k (c .offset) end))) of-task
+      ∙ ap (λ b. seen i (c .lead .ticks + c .offset) (answers s o start (course-until s o i b end))) at-offset
+      ∙ ap (λ z. seen i z (answers s o start (course-until s o i a end))) arrives
+      ∙ ap (λ n. seen i (lead s o i a + a) (answers s o start (course-until s o i a n))) (ends ∙ ap (λ z. z + r) arrives)
