@@ -1,3 +1,4 @@
 pub mod Seen
 pub mod OneTick
 pub mod Rehearsed
+pub mod Replayed
