@@ -31,7 +31,8 @@ use Rattle.rehearsal.proofs.Seeing.{seen-last}
 tells-itself : (i arrival response : ℕ) → told-by i arrival (Finished i arrival response) ≡ Some response
 tells-itself i arrival response = cond-true _ (Some response) None (and-from (eqb i i) (eqb arrival arrival) (eq-eqb i i refl) (eq-eqb arrival arrival refl))
 
-meets : (n : ℕ) (rows : List Row) (v : Verdict) → Verdict-of n rows v → (Is-late v → ⊥) → (i : ℕ) → i < n → Meets rows i
+-- in an admitted table every row meets its deadline
+pub meets : (n : ℕ) (rows : List Row) (v : Verdict) → Verdict-of n rows v → (Is-late v → ⊥) → (i : ℕ) → i < n → Meets rows i
 meets n rows Admitted all on-time i h = all i h
 meets n rows (Late k) late on-time i h = absurd (on-time tt)
 

@@ -2,3 +2,4 @@ pub mod Seen
 pub mod OneTick
 pub mod Rehearsed
 pub mod Replayed
+pub mod Within

@@ -4,7 +4,9 @@ ghost use Rattle.std.specs.Vec.{made};
 ghost use Rattle.table.specs.Model.{content};
 ghost use Rattle.analysis.specs.Judged.{Judged};
 ghost use Rattle.analysis.specs.Promised.{Rows-bound, Rows-attained, Verdict-exact};
+ghost use Rattle.dispatch.specs.Replayed.{answers-in};
 ghost use Rattle.rehearsal.specs.Replayed.{Replayed};
+ghost use Rattle.rehearsal.specs.Within.{Within-rows, On-time};
 use analysis::Judgement;
 use analysis::Row;
 use analysis::judge;
@@ -15,7 +17,8 @@ use table::Refusal;
 use table::Table;
 
 /// Judges a table under a policy, and then makes the calls of these steps on a fresh run of it, in their order, and writes the answer to each beside it.
-/// What the judgement promises holds of every list of calls, and so of these; refused, with rows and steps as they were, where the judgement is.
+/// No answer tells a response longer than its row's, and where the table is admitted none tells a missed deadline or a full line.
+/// Refused, with rows and steps as they were, where the judgement is.
 pub fn judged_replay<P: Policy + Drop>(
     policy: P,
     table: &Table,
@@ -24,6 +27,8 @@ pub fn judged_replay<P: Policy + Drop>(
 ) -> Result<Judgement, Refusal>
     ensures judged { λ r. ⌜ Judged (content (now (table .entry))) (meaning policy (content (now (table .entry)))) (now (rows .entry)) (now (rows .exit)) r ⌝ }
     ensures replayed { λ r. ⌜ Replayed (content (now (table .entry))) (meaning policy (content (now (table .entry)))) (now (steps .entry)) (now (steps .exit)) r ⌝ }
+    ensures within { λ r. ⌜ made r (λ _. Within-rows (now (rows .exit)) (answers-in (now (steps .exit)))) ⌝ }
+    ensures on_time { λ r. ⌜ made r (λ j. On-time (content (now (table .entry))) (j .verdict) (answers-in (now (steps .exit)))) ⌝ }
     ensures never_longer { λ r. ⌜ made r (λ _. Rows-bound (content (now (table .entry))) (meaning policy (content (now (table .entry)))) (now (rows .exit))) ⌝ }
     ensures attained { λ r. ⌜ made r (λ j. Rows-attained (content (now (table .entry))) (meaning policy (content (now (table .entry)))) (now (rows .exit)) (j .verdict)) ⌝ }
     ensures late_exactly { λ r. ⌜ made r (λ j. Verdict-exact (content (now (table .entry))) (meaning policy (content (now (table .entry)))) (j .verdict)) ⌝ }
