@@ -7,6 +7,9 @@ use mathlib.Core.Path.{_≡_, refl, sym, ap, subst, _∙_}
 use native.Mathlib.Omega.{arith}
 use Rattle.std.specs.declared.option.Option.{Option}
 use Rattle.std.specs.declared.option.Option.the-variants.{Some, None}
+use Rattle.std.specs.Vec.{made}
+use Rattle.std.specs.declared.result.Result.{Result}
+use Rattle.std.specs.declared.result.Result.the-variants.{Ok, Err}
 use Rattle.std.proofs.shelf.Tests.{cases-bool, cond-true, cond-false}
 use Rattle.table.specs.Rules.{Task-set, Checked, task-at, task-count}
 use Rattle.table.specs.declared.refusal.Refusal.{Refusal}
@@ -19,10 +22,13 @@ use Rattle.theory.proofs.Choice.{Choice, nobody, leader, kept, choice}
 use Rattle.theory.proofs.Courses.{play-snoc}
 use Rattle.theory.proofs.MachineFacts.{facts-after, waits-of, all-known-waiting}
 use Rattle.theory.proofs.QueueLimit.{never-full}
-use Rattle.analysis.specs.Judged.{Given, row-at}
+use Rattle.analysis.specs.Judged.{Given, Judged, row-at}
 use Rattle.analysis.specs.declared.rows.Row.{Row}
 use Rattle.analysis.specs.declared.rows.Judgement.{Judgement}
 use Rattle.analysis.proofs.Promises.{rows-bound}
+use Rattle.dispatch.specs.Replayed.{calls-of, answers-in}
+use Rattle.dispatch.specs.declared.replies.Step.{Step}
+use Rattle.rehearsal.specs.Replayed.{Replayed}
 use Rattle.rehearsal.specs.Within.{Within-rows, On-time}
 use Rattle.rehearsal.proofs.Promise.{meets}
 
@@ -73,10 +79,10 @@ module _ (s : Task-set) (o : Order) (checked : Checked s) (law : Lawful s o) whe
       answered s o R st (young (found .0)) i r x (found .1) (refusal s st (found .1)) (choice s o law (s .mode) (waiting st) (all-known-waiting s o checked law st (facts-after s o checked law (found .0)))) (found .2)
 
   module _ (before rows : List Row) (j : Judgement) (given : Given s o before rows j) (calls : List Call) where
-    pub within-rows : Within-rows rows (answers s o start calls)
+    within-rows : Within-rows rows (answers s o start calls)
     within-rows = all-within (λ k. row-at rows k .response) (rows-bound s o checked law before rows j given) calls
 
-    pub on-time : On-time s (j .verdict) (answers s o start calls)
+    on-time : On-time s (j .verdict) (answers s o start calls)
     on-time punctual = (all-within (λ k. task-at s k .deadline) young calls, never-full s o (j .«busy_period») checked law (given .busy) (given .short) admitted calls)
       where
         within : (i : ℕ) → i < task-count s → row-at rows i .response ≤ task-at s i .deadline
@@ -87,3 +93,11 @@ module _ (s : Task-set) (o : Order) (checked : Checked s) (law : Lawful s o) whe
 
         admitted : Admitted-by s o (j .«busy_period»)
         admitted i r a h worst = omega (arith, given .rows i h .0 .longest a r (worst .inside) (worst .given), within i h)
+
+  -- the answers that are written beside a judgement
+  pub kept-within : (before rows : List Row) (steps written : List Step) (r : Result Judgement Refusal) → Judged s o before rows r → Replayed s o steps written r
+      → made r (λ _. Within-rows rows (answers-in written)) × made r (λ j. On-time s (j .verdict) (answers-in written))
+  kept-within before rows steps written (Ok j) given (calls, told) =
+      ( subst (Within-rows rows) (sym told) (within-rows before rows j given (calls-of steps))
+      , subst (On-time s (j .verdict)) (sym told) (on-time before rows j given (calls-of steps)) )
+  kept-within before rows steps written (Err e) refused same = (tt, tt)

@@ -16,6 +16,24 @@ use policy::Policy;
 use table::Refusal;
 use table::Table;
 
+// Judges, and then plays the calls.
+fn judge_and_replay<P: Policy + Drop>(
+    policy: P,
+    table: &Table,
+    rows: &mut [Row],
+    steps: &mut [Step],
+) -> Result<Judgement, Refusal>
+    ensures judged { λ r. ⌜ Judged (content (now (table .entry))) (meaning policy (content (now (table .entry)))) (now (rows .entry)) (now (rows .exit)) r ⌝ }
+    ensures replayed { λ r. ⌜ Replayed (content (now (table .entry))) (meaning policy (content (now (table .entry)))) (now (steps .entry)) (now (steps .exit)) r ⌝ }
+    ensures never_longer { λ r. ⌜ made r (λ _. Rows-bound (content (now (table .entry))) (meaning policy (content (now (table .entry)))) (now (rows .exit))) ⌝ }
+    ensures attained { λ r. ⌜ made r (λ j. Rows-attained (content (now (table .entry))) (meaning policy (content (now (table .entry)))) (now (rows .exit)) (j .verdict)) ⌝ }
+    ensures late_exactly { λ r. ⌜ made r (λ j. Verdict-exact (content (now (table .entry))) (meaning policy (content (now (table .entry)))) (j .verdict)) ⌝ }
+{
+    let judgement = judge(&policy, table, rows)?;
+    replay(policy, table, steps);
+    Ok(judgement)
+}
+
 /// Judges a table under a policy, and then makes the calls of these steps on a fresh run of it, in their order, and writes the answer to each beside it.
 /// No answer tells a response longer than its row's, and where the table is admitted none tells a missed deadline or a full line.
 /// Refused, with rows and steps as they were, where the judgement is.
@@ -33,7 +51,5 @@ pub fn judged_replay<P: Policy + Drop>(
     ensures attained { λ r. ⌜ made r (λ j. Rows-attained (content (now (table .entry))) (meaning policy (content (now (table .entry)))) (now (rows .exit)) (j .verdict)) ⌝ }
     ensures late_exactly { λ r. ⌜ made r (λ j. Verdict-exact (content (now (table .entry))) (meaning policy (content (now (table .entry)))) (j .verdict)) ⌝ }
 {
-    let judgement = judge(&policy, table, rows)?;
-    replay(policy, table, steps);
-    Ok(judgement)
+    judge_and_replay(policy, table, rows, steps)
 }
