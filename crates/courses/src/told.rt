@@ -36,7 +36,7 @@ fn other_releases(lead: u32, period: u32, t: u32) -> bool
 }
 
 // Whether task j, of this period, releases at t.
-fn releases(lead: Lead, i: usize, a: u32, j: usize, period: u32, t: u32) -> bool
+pub(crate) fn releases(lead: Lead, i: usize, a: u32, j: usize, period: u32, t: u32) -> bool
     requires lead { ⌜ lead .ticks ≤ 1 ⌝ }
     requires short { ⌜ a < 60000 ⌝ }
     requires period { ⌜ 1 ≤ period ⌝ }

@@ -1,0 +1,4 @@
+pub mod Seeing
+pub mod Steps
+pub mod Promise
+pub mod Bounded

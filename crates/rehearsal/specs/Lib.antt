@@ -1,0 +1,5 @@
+pub mod Seen
+pub mod OneTick
+pub mod Rehearsed
+pub mod Replayed
+pub mod Within

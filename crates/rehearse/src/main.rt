@@ -1,0 +1,102 @@
+//! Reads a table file from standard input, judges it, plays every task's worst course, and prints what was reported beside what was seen.
+use analysis::Judgement;
+use analysis::Row;
+use analysis::Verdict;
+use analysis::judge;
+use console::INPUT_BYTES;
+use console::front;
+use console::print_refusal;
+use console::read_input;
+use policy::Arrival;
+use policy::Bands;
+use policy::Deadline;
+use policy::Fixed;
+use policy::arrival::ArrivalPolicy;
+use policy::bands::BandsPolicy;
+use policy::deadline::DeadlinePolicy;
+use policy::fixed::FixedPolicy;
+use rehearsal::play_worst_course;
+use std::io;
+use std::io::Write;
+use table::PolicyCode;
+use table::Refusal;
+use table::Table;
+use table::Task;
+use tablefile::read_table;
+
+fn judge_by_code(table: &Table, rows: &mut [Row]) -> Result<Judgement, Refusal> {
+    match table.policy() {
+        PolicyCode::Fixed => judge(&Fixed, table, rows),
+        PolicyCode::Deadline => judge(&Deadline, table, rows),
+        PolicyCode::Arrival => judge(&Arrival, table, rows),
+        PolicyCode::Bands => judge(&Bands::new(table.band(), Fixed, Deadline), table, rows),
+    }
+}
+
+fn play_by_code(table: &Table, task: usize, row: Row) -> Result<Option<u32>, Refusal> {
+    match table.policy() {
+        PolicyCode::Fixed => play_worst_course(Fixed, table, task, row),
+        PolicyCode::Deadline => play_worst_course(Deadline, table, task, row),
+        PolicyCode::Arrival => play_worst_course(Arrival, table, task, row),
+        PolicyCode::Bands => {
+            let bands = Bands::new(table.band(), Fixed, Deadline);
+            play_worst_course(bands, table, task, row)
+        }
+    }
+}
+
+fn print_seen(rt: &LibcRuntime, seen: Result<Option<u32>, Refusal>) -> io::Result<()> {
+    match seen {
+        Ok(Some(response)) => println!(rt, " {response}"),
+        Ok(None) => println!(rt, " -"),
+        Err(_) => println!(rt, " -"),
+    }
+}
+
+fn print_task(rt: &LibcRuntime, table: &Table, number: usize, task: &Task, row: Row) -> io::Result<()> {
+    print!(rt, "{number} ")?;
+    rt.stdout().write_all(task.name.as_bytes())?;
+    let response = row.response;
+    print!(rt, " {response}")?;
+    print_seen(rt, play_by_code(table, number, row))
+}
+
+fn print_tasks(rt: &LibcRuntime, table: &Table, rows: &[Row]) -> io::Result<()> {
+    for (number, task) in table.tasks().iter().enumerate() {
+        if number < rows.len() {
+            print_task(rt, table, number, task, rows[number])?;
+        }
+    }
+    Ok(())
+}
+
+fn print_verdict(rt: &LibcRuntime, verdict: Verdict) -> io::Result<()> {
+    match verdict {
+        Verdict::Admitted => println!(rt, "admitted"),
+        Verdict::Late { task: _ } => println!(rt, "late"),
+    }
+}
+
+// Reads and judges.
+fn judged(input: &[u8], table: &mut Table, rows: &mut [Row]) -> Result<Judgement, Refusal> {
+    read_table(input, table)?;
+    judge_by_code(table, rows)
+}
+
+fn main(rt: LibcRuntime) -> io::Result<()> {
+    let mut buffer = [0u8; INPUT_BYTES];
+    let len = read_input(&rt, &mut buffer)?;
+    let mut table = Table::fresh();
+    let mut rows = [Row {
+        response: 0,
+        offset: 0,
+        deadline: 0,
+    }; 24];
+    match judged(front(&buffer, len), &mut table, &mut rows) {
+        Ok(judgement) => {
+            print_tasks(&rt, &table, &rows)?;
+            print_verdict(&rt, judgement.verdict)
+        }
+        Err(refusal) => print_refusal(&rt, refusal),
+    }
+}
