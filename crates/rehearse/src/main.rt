@@ -53,7 +53,13 @@ fn print_seen(rt: &LibcRuntime, seen: Result<Option<u32>, Refusal>) -> io::Resul
     }
 }
 
-fn print_task(rt: &LibcRuntime, table: &Table, number: usize, task: &Task, row: Row) -> io::Result<()> {
+fn print_task(
+    rt: &LibcRuntime,
+    table: &Table,
+    number: usize,
+    task: &Task,
+    row: Row,
+) -> io::Result<()> {
     print!(rt, "{number} ")?;
     rt.stdout().write_all(task.name.as_bytes())?;
     let response = row.response;

@@ -40,10 +40,11 @@ loop-time-again g c =
     let e = c .play-tick-told .last .run .station in
     let t = c .loop-time .time in
     let calls = course-until s o (course .task) (course .offset) t in
-    let ticked = subst (λ q. Answered (m q s) d calls → One-tick s (m q s) course t calls e (c .play-tick-told .result)) (inv .0) (c .play-tick-told .ensures .answered calls) (inv .2 .played) in
-    ( c .play-tick-told .ensures .policy ∙ inv .0
-    , c .play-tick-told .ensures .table ∙ inv .1
-    , shown-more s o (course .task) (course .offset) (course .lead .ticks + course .offset) t d e (c .loop-time .seen) (c .play-tick-told .result) (c .latest-seen .result) (inv .2) (ticked .played) (ticked .tells) (c .latest-seen .ensures) )
+    let ticked = subst (λ q. Answered (m q s) d calls → One-tick s (m q s) course t calls e (c .play-tick-told .result)) (inv .0) (c .play-tick-told .ensures .answered calls) (inv .2 .played) in (
+      c .play-tick-told .ensures .policy ∙ inv .0,
+      c .play-tick-told .ensures .table ∙ inv .1,
+      shown-more s o (course .task) (course .offset) (course .lead .ticks + course .offset) t d e (c .loop-time .seen) (c .play-tick-told .result) (c .latest-seen .result) (inv .2) (ticked .played) (ticked .tells) (c .latest-seen .ensures),
+    )
 
 pub returns : need.returns
 returns g c =
