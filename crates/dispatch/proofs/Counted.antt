@@ -46,7 +46,7 @@ module _ (s : Task-set) (j : ℕ) where
       ms = those (of-task j) ws
 
       go : (a : Bool) → Tally ms (those (λ w. w .finished) ms) (how-many waits ms) (summed s j ws)
-        → Tally (cond a (w ∷ ms) ms) (those (λ w. w .finished) (cond a (w ∷ ms) ms)) (how-many waits (cond a (w ∷ ms) ms)) (cond a (newer (task-at s j) (w .finished) (w .release) (w .ran) (w .response) (summed s j ws)) (summed s j ws))
+          → Tally (cond a (w ∷ ms) ms) (those (λ w. w .finished) (cond a (w ∷ ms) ms)) (how-many waits (cond a (w ∷ ms) ms)) (cond a (newer (task-at s j) (w .finished) (w .release) (w .ran) (w .response) (summed s j ws)) (summed s j ws))
       go true h = tally-more w ms (those (λ w. w .finished) ms) (how-many waits ms) (summed s j ws) (w .finished) h
       go false h = h
 

@@ -46,6 +46,6 @@ pub advanced-from : (d e : Station) (f : Front) (later : ℕ) (chosen : Option �
 advanced-from d e f later chosen done r is moves = record {
   idle = λ none. absurd (none-some (sym none ∙ is));
   ran = λ i p ps c known w.
-    let same : f .task ≡ i = some-same (sym is ∙ c) in
-    subst (λ j. Moves (content (d .table)) later (board (d .lines)) (board (e .lines)) (d .stage) (e .stage) j (ends-now (task-at (content (d .table)) j) done p) p ps r) same (moves p ps (subst (λ j. board (d .lines) j .waiting ≡ p ∷ ps) (sym same) w));
+      let same : f .task ≡ i = some-same (sym is ∙ c) in
+      subst (λ j. Moves (content (d .table)) later (board (d .lines)) (board (e .lines)) (d .stage) (e .stage) j (ends-now (task-at (content (d .table)) j) done p) p ps r) same (moves p ps (subst (λ j. board (d .lines) j .waiting ≡ p ∷ ps) (sym same) w));
 }

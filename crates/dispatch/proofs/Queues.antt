@@ -26,7 +26,8 @@ queue-first ran zero xs h e = absurd (omega arith)
 queue-first ran (suc k) [] h e = absurd (omega arith)
 queue-first ran (suc k) (x ∷ xs) h e = refl
 
-map-snoc : {X Y : Type 0} (f : X → Y) (xs : List X) (y : X) → map f (xs ++ (y ∷ [])) ≡ map f xs ++ (f y ∷ [])
+-- a map with one more at the end
+pub map-snoc : {X Y : Type 0} (f : X → Y) (xs : List X) (y : X) → map f (xs ++ (y ∷ [])) ≡ map f xs ++ (f y ∷ [])
 map-snoc f [] y = refl
 map-snoc f (x ∷ xs) y = ap (λ zs. f x ∷ zs) (map-snoc f xs y)
 

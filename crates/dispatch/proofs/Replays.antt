@@ -1,6 +1,6 @@
 -- Answers along a list of calls, one more at a time.
 use Prim.Native.Nat.{ℕ, _+_, _≤_, _<_}
-use mathlib.Core.List.{List, [], _∷_, _++_, map}
+use mathlib.Core.List.{List, [], _∷_, _++_}
 use mathlib.Core.Path.{_≡_, refl, sym, ap, subst, _∙_}
 use native.Mathlib.Omega.{arith}
 use lib.ListN.{length, getD, set, take, drop}
@@ -17,10 +17,7 @@ use Rattle.dispatch.specs.declared.station.Station.{Station}
 use Rattle.dispatch.specs.Replayed.{calls-in, calls-of, answers-in}
 use Rattle.dispatch.specs.Replies.{call-of, reply-told}
 use Rattle.dispatch.specs.declared.replies.Step.{Step}
-
-map-more : {X Y : Type 0} (f : X → Y) (xs : List X) (x : X) → map f (xs ++ (x ∷ [])) ≡ map f xs ++ (f x ∷ [])
-map-more f [] x = refl
-map-more f (y ∷ ys) x = ap (λ zs. f y ∷ zs) (map-more f ys x)
+use Rattle.dispatch.proofs.Queues.{map-snoc}
 
 answers-snoc : (s : Task-set) (o : Order) (st : State) (cs : List Call) (c : Call) → answers s o st (cs ++ (c ∷ [])) ≡ answers s o st cs ++ (answer s o (play s o st cs) c ∷ [])
 unfolding answers play
@@ -49,12 +46,12 @@ module _ (s : Task-set) (o : Order) (before : List Step) where
     module _ (x q : Step) (same : x .call ≡ getD before n q .call) where
       -- the calls with the next one
       pub calls-more : calls-of (take (n + 1) before) ≡ calls-of (take n before) ++ (call-of (x .call) ∷ [])
-      calls-more = ap calls-of (take-more before n q here) ∙ map-more (λ (p : Step). call-of (p .call)) (take n before) (getD before n q) ∙ ap (λ c. calls-of (take n before) ++ (call-of c ∷ [])) (sym same)
+      calls-more = ap calls-of (take-more before n q here) ∙ map-snoc (λ (p : Step). call-of (p .call)) (take n before) (getD before n q) ∙ ap (λ c. calls-of (take n before) ++ (call-of c ∷ [])) (sym same)
 
       pub replayed-more : reply-told (x .answer) ≡ answer s o (play s o start (calls-of (take n before))) (call-of (x .call)) → Replayed s o before (set after n x) (n + 1)
       replayed-more is = record {
-        calls = ap calls-in (take-more-set after n x (omega arith)) ∙ map-more (λ (p : Step). p .call) (take n after) x ∙ ap (λ cs. cs ++ (x .call ∷ [])) (so-far .calls) ∙ ap (λ c. calls-in (take n before) ++ (c ∷ [])) same ∙ sym (map-more (λ (p : Step). p .call) (take n before) (getD before n q)) ∙ ap calls-in (sym (take-more before n q here));
-        told = ap answers-in (take-more-set after n x (omega arith)) ∙ map-more (λ (p : Step). reply-told (p .answer)) (take n after) x ∙ ap (λ us. us ++ (reply-told (x .answer) ∷ [])) (so-far .told) ∙ ap (λ a. answers s o start (calls-of (take n before)) ++ (a ∷ [])) is ∙ sym (answers-snoc s o start (calls-of (take n before)) (call-of (x .call))) ∙ ap (answers s o start) (sym calls-more);
+        calls = ap calls-in (take-more-set after n x (omega arith)) ∙ map-snoc (λ (p : Step). p .call) (take n after) x ∙ ap (λ cs. cs ++ (x .call ∷ [])) (so-far .calls) ∙ ap (λ c. calls-in (take n before) ++ (c ∷ [])) same ∙ sym (map-snoc (λ (p : Step). p .call) (take n before) (getD before n q)) ∙ ap calls-in (sym (take-more before n q here));
+        told = ap answers-in (take-more-set after n x (omega arith)) ∙ map-snoc (λ (p : Step). reply-told (p .answer)) (take n after) x ∙ ap (λ us. us ++ (reply-told (x .answer) ∷ [])) (so-far .told) ∙ ap (λ a. answers s o start (calls-of (take n before)) ++ (a ∷ [])) is ∙ sym (answers-snoc s o start (calls-of (take n before)) (call-of (x .call))) ∙ ap (answers s o start) (sym calls-more);
         rest = drop-set-lt (n + 1) after n x (omega arith) ∙ sym (drop-drop 1 n after) ∙ ap (drop 1) (so-far .rest) ∙ drop-drop 1 n before;
       }
 
@@ -71,8 +68,7 @@ pub replay-step : (t : Table) (o : Order) (before after : List Step) (n : ℕ) (
     → Answered o e (calls-of (take (n + 1) before)) × Replayed (content t) o before (set after n x) (n + 1)
 replay-step t o before after n d e x q here long same read makes answered so-far =
     let r = makes (calls-of (take n before)) answered in
-    let known : x .call ≡ getD before n q .call = read ∙ ap (λ (p : Step). p .call) (next-same (content t) o before after n here long so-far q) in
-    (
+    let known : x .call ≡ getD before n q .call = read ∙ ap (λ (p : Step). p .call) (next-same (content t) o before after n here long so-far q) in (
       subst (Answered o e) (sym (calls-more (content t) o before after n here long so-far x q known)) (r .0),
       replayed-more (content t) o before after n here long so-far x q known (r .1 ∙ ap (λ u. answer (content u) o (play (content u) o start (calls-of (take n before))) (call-of (x .call))) same),
     )

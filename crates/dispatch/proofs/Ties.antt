@@ -8,7 +8,7 @@ use native.Mathlib.Omega.{arith}
 use lib.Dec.{leb, ltb}
 use lib.ListN.{length}
 use Rattle.std.proofs.shelf.Ways.{tells}
-use Rattle.std.proofs.shelf.Tests.{cases-eq, cond-true, cond-false, ne-eqb}
+use Rattle.std.proofs.shelf.Tests.{cases-eq, cond-true, cond-false, ne-eqb, le-leb}
 use Rattle.std.specs.declared.option.Option.{Option}
 use Rattle.std.specs.declared.option.Option.the-variants.{Some, None}
 use Rattle.table.specs.Rules.{Task-set, Checked, task-at, task-count}
@@ -67,16 +67,10 @@ module _ (s : Task-set) (o : Order) where
 
     -- no such task
     pub release-unknown : (j : ℕ) → task-count s ≤ j → Next calls (machine.release j) time b stage (machine.Refused (NoTaskToRun j))
-    release-unknown j h = next-refused (machine.release j) (NoTaskToRun j) (cond-true (leb (task-count s) j) _ _ (here j h))
-      where
-        here : (j : ℕ) → task-count s ≤ j → leb (task-count s) j ≡ true
-        here j h = grind (arith, tells)
+    release-unknown j h = next-refused (machine.release j) (NoTaskToRun j) (cond-true (leb (task-count s) j) _ _ (le-leb (task-count s) j h))
 
     pub look-unknown : (j : ℕ) → task-count s ≤ j → Next calls (machine.look j) time b stage (machine.Refused (NoTaskToRun j))
-    look-unknown j h = next-refused (machine.look j) (NoTaskToRun j) (cond-true (leb (task-count s) j) _ _ (here j h))
-      where
-        here : (j : ℕ) → task-count s ≤ j → leb (task-count s) j ≡ true
-        here j h = grind (arith, tells)
+    look-unknown j h = next-refused (machine.look j) (NoTaskToRun j) (cond-true (leb (task-count s) j) _ _ (le-leb (task-count s) j h))
 
     pub look-known : (j : ℕ) → j < task-count s → Next calls (machine.look j) time b stage (machine.Looked (counts-of (b j)))
     look-known j h = next-accepted (machine.look j) (cond-false (leb (task-count s) j) _ _ here) time b stage _ rep (ap (λ u. machine.Looked (counts-of u)) (rep .lines j h) ∙ ap machine.Looked (sym (counted-is s j (play s o start calls))))
@@ -85,10 +79,7 @@ module _ (s : Task-set) (o : Order) where
         here = grind (arith, tells)
 
     pub tick-over : (done : Bool) → 4000000000 ≤ time → Next calls (machine.tick done) time b stage (machine.Refused TimeOver)
-    tick-over done h = next-refused (machine.tick done) TimeOver (cond-true (leb 4000000000 (play s o start calls .time)) _ _ (here (play s o start calls .time) (omega (arith, rep .time))))
-      where
-        here : (n : ℕ) → 4000000000 ≤ n → leb 4000000000 n ≡ true
-        here n k = grind (arith, tells)
+    tick-over done h = next-refused (machine.tick done) TimeOver (cond-true (leb 4000000000 (play s o start calls .time)) _ _ (le-leb 4000000000 (play s o start calls .time) (omega (arith, rep .time))))
 
     module _ (checked : Checked s) (law : Lawful s o) where
       facts : Facts s (play s o start calls)
@@ -204,10 +195,10 @@ module _ (s : Task-set) (o : Order) where
           runs = (
             record { time = later-is; lines = λ k lt. line k lt (cases-eq k i); stage = λ m. subst (λ at. Fits at (task-count s) d) (sym (mv .stage ∙ ap (λ n. stage-after n stage (outcome-of over i)) m)) (fits m over (mv .here)) },
             ap ticked-told (mv .told)
-            ∙ told-both over i (x .release) (time + 1)
-            ∙ ap (λ v. cond v (machine.Finished i (x .release) (time + 1 - x .release)) (machine.Ran i (x .release))) over-is
-            ∙ ap (λ j. cond (ends s done x) (machine.Finished j (x .release) (time + 1 - x .release)) (machine.Ran j (x .release))) (sym (first .mine))
-            ∙ ap (λ n. cond (ends s done x) (machine.Finished (x .task) (x .release) (n - x .release)) (machine.Ran (x .task) (x .release))) later-is,
+                ∙ told-both over i (x .release) (time + 1)
+                ∙ ap (λ v. cond v (machine.Finished i (x .release) (time + 1 - x .release)) (machine.Ran i (x .release))) over-is
+                ∙ ap (λ j. cond (ends s done x) (machine.Finished j (x .release) (time + 1 - x .release)) (machine.Ran j (x .release))) (sym (first .mine))
+                ∙ ap (λ n. cond (ends s done x) (machine.Finished (x .task) (x .release) (n - x .release)) (machine.Ran (x .task) (x .release))) later-is,
           )
 
         both : (r : Option Work) → Choice (s .mode) o (waiting (play s o start calls)) r → (c : Option ℕ) → chosen ≡ c → Same s o checked law (play s o start calls) facts soon b (rep .lines) plain r c → Moved r

@@ -6,6 +6,8 @@ pub mod replies;
 pub mod run;
 mod stage;
 mod station;
+#[cfg(test)]
+mod tests;
 
 pub use replaying::replay;
 pub use replies::Counts;

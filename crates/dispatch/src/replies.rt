@@ -7,9 +7,16 @@ pub enum Ticked {
     /// No job waited.
     Idle,
     /// This job ran and is not finished.
-    Ran { task: usize, release: u32 },
+    Ran {
+        task: usize,
+        release: u32,
+    },
     /// This job ran and finished, this long after its release.
-    Finished { task: usize, release: u32, response: u32 },
+    Finished {
+        task: usize,
+        release: u32,
+        response: u32,
+    },
 }
 
 /// The counts of one task; missed are the finished jobs whose response exceeded the deadline.

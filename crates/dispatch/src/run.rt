@@ -23,7 +23,13 @@ use table::Refusal;
 use table::Table;
 
 // The better of the best head so far and the first job of a task, if one waits.
-fn better<P: Policy>(policy: &P, table: &Table, best: Option<Head>, task: usize, first: Option<u32>) -> Option<Head>
+fn better<P: Policy>(
+    policy: &P,
+    table: &Table,
+    best: Option<Head>,
+    task: usize,
+    first: Option<u32>,
+) -> Option<Head>
     ensures { λ r. ⌜ r ≡ better-of (ahead-answer (content (now (table .entry))) (meaning (now (policy .entry)) (content (now (table .entry))))) best task first ⌝ }
 {
     let Some(release) = first else {

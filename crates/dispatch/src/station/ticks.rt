@@ -42,7 +42,8 @@ impl Station {
     {
         let mode = self.table.mode();
         match (&mut self.stage, mode, outcome) {
-            (Stage::Begun { task }, Mode::NonPreemptive, Outcome::Went { task: next }) => *task = next,
+            (Stage::Begun { task }, Mode::NonPreemptive, Outcome::Went { task: next }) => *task =
+                next,
             (stage, Mode::NonPreemptive, Outcome::Went { task }) => *stage = Stage::Begun { task },
             (stage, Mode::NonPreemptive, Outcome::Idled) => *stage = Stage::Idle,
             (stage, Mode::NonPreemptive, Outcome::Ended) => *stage = Stage::Idle,

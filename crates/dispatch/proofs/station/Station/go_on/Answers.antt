@@ -25,12 +25,12 @@ returns c = record {
   table = c .turn .ensures .table ∙ c .put .ensures .table;
   time = c .turn .ensures .time ∙ c .put .ensures .time;
   moves = λ p ps w.
-    let d = c .args .self .now in
-    let f = c .args .front in
-    let at : f .release ≡ p .release = front-release (board (d .lines) (f .task) .waiting) p ps (f .release) w (c .pre .front .first) in
-    moves-from d (c .put .last .self) (c .turn .last .self .stage) (board (c .turn .last .self .lines)) f false p ps (line-summary (c .go-on .result)) _ (c .pre .front) w (c .put .ensures)
-    (c .go-on .ensures p ps (sporadic (f .known)) (d .time) (ap (λ (u : Summary). u .waiting) (c .pre .front .line) ∙ w))
-    (λ k. ap (λ ls. board ls k) (c .turn .ensures .lines))
-    (c .turn .ensures .stage)
-    (ap (λ r. ticked.Ran (f .task) r) at);
+      let d = c .args .self .now in
+      let f = c .args .front in
+      let at : f .release ≡ p .release = front-release (board (d .lines) (f .task) .waiting) p ps (f .release) w (c .pre .front .first) in
+      moves-from d (c .put .last .self) (c .turn .last .self .stage) (board (c .turn .last .self .lines)) f false p ps (line-summary (c .go-on .result)) _ (c .pre .front) w (c .put .ensures)
+      (c .go-on .ensures p ps (sporadic (f .known)) (d .time) (ap (λ (u : Summary). u .waiting) (c .pre .front .line) ∙ w))
+      (λ k. ap (λ ls. board ls k) (c .turn .ensures .lines))
+      (c .turn .ensures .stage)
+      (ap (λ r. ticked.Ran (f .task) r) at);
 }

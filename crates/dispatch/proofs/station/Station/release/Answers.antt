@@ -21,9 +21,9 @@ returns-in-rest c = record {
   table = refl;
   refused = refl;
   answered = λ o law calls rep.
-    let d = c .args .self .now in
-    let n = release-unknown (content (d .table)) o calls (d .time) (board (d .lines)) (d .stage) rep (c .args .task) (c .in-rest .ensures tt) in
-    (n .stands, n .tells);
+      let d = c .args .self .now in
+      let n = release-unknown (content (d .table)) o calls (d .time) (board (d .lines)) (d .stage) rep (c .args .task) (c .in-rest .ensures tt) in
+      (n .stands, n .tells);
 }
 
 pub returns-then-is-soon : need.returns-then-is-soon
@@ -31,11 +31,11 @@ returns-then-is-soon c = record {
   table = refl;
   refused = refl;
   answered = λ o law calls rep.
-    let d = c .args .self .now in
-    let found = c .in-Some .ensures tt in
-    let soon : ltb (d .time) (board (d .lines) (c .args .task) .free) ≡ true = ap (λ (u : Summary). ltb (d .time) (u .free)) (sym (c .line-line .ensures)) ∙ sym (c .if-is-soon .ensures tt) in
-    let n = release-soon (content (d .table)) o calls (d .time) (board (d .lines)) (d .stage) rep (table-checked (d .table)) law (c .args .task) (found .0) soon in
-    (n .stands, n .tells);
+      let d = c .args .self .now in
+      let found = c .in-Some .ensures tt in
+      let soon : ltb (d .time) (board (d .lines) (c .args .task) .free) ≡ true = ap (λ (u : Summary). ltb (d .time) (u .free)) (sym (c .line-line .ensures)) ∙ sym (c .if-is-soon .ensures tt) in
+      let n = release-soon (content (d .table)) o calls (d .time) (board (d .lines)) (d .stage) rep (table-checked (d .table)) law (c .args .task) (found .0) soon in
+      (n .stands, n .tells);
 }
 
 pub returns-then-is-full : need.returns-then-is-full
@@ -43,12 +43,12 @@ returns-then-is-full c = record {
   table = refl;
   refused = refl;
   answered = λ o law calls rep.
-    let d = c .args .self .now in
-    let found = c .in-Some .ensures tt in
-    let soon : ltb (d .time) (board (d .lines) (c .args .task) .free) ≡ false = ap (λ (u : Summary). ltb (d .time) (u .free)) (sym (c .line-line .ensures)) ∙ sym (c .if-is-soon .ensures tt) in
-    let full : leb 8 (length (board (d .lines) (c .args .task) .waiting)) ≡ true = ap (λ (u : Summary). leb 8 (length (u .waiting))) (sym (c .line-line .ensures)) ∙ ap (leb 8) (line-long (c .line-line .result)) ∙ sym (c .if-is-full .ensures tt) in
-    let n = release-full (content (d .table)) o calls (d .time) (board (d .lines)) (d .stage) rep (table-checked (d .table)) law (c .args .task) (found .0) soon full in
-    (n .stands, n .tells);
+      let d = c .args .self .now in
+      let found = c .in-Some .ensures tt in
+      let soon : ltb (d .time) (board (d .lines) (c .args .task) .free) ≡ false = ap (λ (u : Summary). ltb (d .time) (u .free)) (sym (c .line-line .ensures)) ∙ sym (c .if-is-soon .ensures tt) in
+      let full : leb 8 (length (board (d .lines) (c .args .task) .waiting)) ≡ true = ap (λ (u : Summary). leb 8 (length (u .waiting))) (sym (c .line-line .ensures)) ∙ ap (leb 8) (line-long (c .line-line .result)) ∙ sym (c .if-is-full .ensures tt) in
+      let n = release-full (content (d .table)) o calls (d .time) (board (d .lines)) (d .stage) rep (table-checked (d .table)) law (c .args .task) (found .0) soon full in
+      (n .stands, n .tells);
 }
 
 pub push-requires : need.push-requires
@@ -70,13 +70,13 @@ returns c = record {
   table = c .put .ensures .table;
   refused = tt;
   answered = λ o law calls rep.
-    let d = c .args .self .now in
-    let e = c .put .last .self in
-    let j = c .args .task in
-    let s = content (d .table) in
-    let found = c .in-Some .ensures tt in
-    let soon : ltb (d .time) (board (d .lines) j .free) ≡ false = ap (λ (u : Summary). ltb (d .time) (u .free)) (sym (c .line-line .ensures)) ∙ sym (c .if-is-soon .ensures tt) in
-    let full : leb 8 (length (board (d .lines) j .waiting)) ≡ false = ap (λ (u : Summary). leb 8 (length (u .waiting))) (sym (c .line-line .ensures)) ∙ ap (leb 8) (line-long (c .line-line .result)) ∙ sym (c .if-is-full .ensures tt) in
-    let here : board (e .lines) j ≡ joined (task-at s j) (d .time) (board (d .lines) j) = c .put .ensures .here ∙ c .push .ensures ∙ ap (λ t. joined t (d .time) (line-summary (c .line-line .result))) (found .1) ∙ ap (λ u. joined (task-at s j) (d .time) u) (c .line-line .ensures) in
-    answered-put d e j (line-summary (c .push .result)) o calls _ (c .put .ensures) (release-free s o calls (d .time) (board (d .lines)) (d .stage) rep (table-checked (d .table)) law j (found .0) (board (e .lines)) here (c .put .ensures .others) soon full);
+      let d = c .args .self .now in
+      let e = c .put .last .self in
+      let j = c .args .task in
+      let s = content (d .table) in
+      let found = c .in-Some .ensures tt in
+      let soon : ltb (d .time) (board (d .lines) j .free) ≡ false = ap (λ (u : Summary). ltb (d .time) (u .free)) (sym (c .line-line .ensures)) ∙ sym (c .if-is-soon .ensures tt) in
+      let full : leb 8 (length (board (d .lines) j .waiting)) ≡ false = ap (λ (u : Summary). leb 8 (length (u .waiting))) (sym (c .line-line .ensures)) ∙ ap (leb 8) (line-long (c .line-line .result)) ∙ sym (c .if-is-full .ensures tt) in
+      let here : board (e .lines) j ≡ joined (task-at s j) (d .time) (board (d .lines) j) = c .put .ensures .here ∙ c .push .ensures ∙ ap (λ t. joined t (d .time) (line-summary (c .line-line .result))) (found .1) ∙ ap (λ u. joined (task-at s j) (d .time) u) (c .line-line .ensures) in
+      answered-put d e j (line-summary (c .push .result)) o calls _ (c .put .ensures) (release-free s o calls (d .time) (board (d .lines)) (d .stage) rep (table-checked (d .table)) law j (found .0) (board (e .lines)) here (c .put .ensures .others) soon full);
 }
