@@ -1,4 +1,8 @@
 //! Reads a table file from standard input, judges it, plays every task's worst course, and prints what was reported beside what was seen.
+ghost use Rattle.table.specs.Model.{content};
+ghost use Rattle.analysis.specs.Judged.{Judged};
+ghost use Rattle.planning.specs.Planned.{chosen-order};
+ghost use Rattle.rehearsal.specs.Rehearsed.{Rehearsed, As-promised};
 use analysis::Judgement;
 use analysis::Row;
 use analysis::Verdict;
@@ -24,7 +28,10 @@ use table::Table;
 use table::Task;
 use tablefile::read_table;
 
-fn judge_by_code(table: &Table, rows: &mut [Row]) -> Result<Judgement, Refusal> {
+// The judgement under the policy that the table's code asks for: Bands is Fixed over Deadline with the table's band.
+fn judge_by_code(table: &Table, rows: &mut [Row]) -> Result<Judgement, Refusal>
+    ensures { λ r. ⌜ Judged (content (now (table .entry))) (chosen-order (content (now (table .entry)))) (now (rows .entry)) (now (rows .exit)) r ⌝ }
+{
     match table.policy() {
         PolicyCode::Fixed => judge(&Fixed, table, rows),
         PolicyCode::Deadline => judge(&Deadline, table, rows),
@@ -33,7 +40,11 @@ fn judge_by_code(table: &Table, rows: &mut [Row]) -> Result<Judgement, Refusal> 
     }
 }
 
-fn play_by_code(table: &Table, task: usize, row: Row) -> Result<Option<u32>, Refusal> {
+// The worst course of a task under that policy.
+fn play_by_code(table: &Table, task: usize, row: Row) -> Result<Option<u32>, Refusal>
+    ensures exact { λ r. ⌜ Rehearsed (content (now (table .entry))) (chosen-order (content (now (table .entry)))) task row r ⌝ }
+    ensures promised { λ r. ⌜ As-promised (content (now (table .entry))) (chosen-order (content (now (table .entry)))) task row r ⌝ }
+{
     match table.policy() {
         PolicyCode::Fixed => play_worst_course(Fixed, table, task, row),
         PolicyCode::Deadline => play_worst_course(Deadline, table, task, row),
