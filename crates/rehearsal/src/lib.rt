@@ -1,4 +1,5 @@
 //! Worst courses played on a run: what a judgement promises, seen happen.
+mod drawing;
 pub mod judged;
 mod playing;
 pub mod worst;
