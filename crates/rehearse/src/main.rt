@@ -1,8 +1,10 @@
-//! Reads a table file from standard input, judges it, plays every task's worst course, and prints what was reported beside what was seen.
+//! Reads a table file from standard input, judges it, plays every task's worst course, and prints what was reported beside what was seen, with a timeline where a line can hold it.
+ghost use Prim.Native.Nat.{_≤_};
 ghost use Rattle.table.specs.Model.{content};
 ghost use Rattle.analysis.specs.Judged.{Judged};
 ghost use Rattle.planning.specs.Planned.{chosen-order};
 ghost use Rattle.rehearsal.specs.Rehearsed.{Rehearsed, As-promised};
+ghost use Rattle.rehearsal.specs.Timeline.{Drawn};
 use analysis::Judgement;
 use analysis::Row;
 use analysis::Verdict;
@@ -19,6 +21,7 @@ use policy::arrival::ArrivalPolicy;
 use policy::bands::BandsPolicy;
 use policy::deadline::DeadlinePolicy;
 use policy::fixed::FixedPolicy;
+use rehearsal::draw_worst_course;
 use rehearsal::play_worst_course;
 use std::io;
 use std::io::Write;
@@ -56,6 +59,21 @@ fn play_by_code(table: &Table, task: usize, row: Row) -> Result<Option<u32>, Ref
     }
 }
 
+// The timeline of task `job` along it.
+fn draw_by_code(table: &Table, task: usize, offset: u32, job: usize, marks: &mut [u8]) -> Result<bool, Refusal>
+    ensures { λ r. ⌜ Drawn (content (now (table .entry))) (chosen-order (content (now (table .entry)))) task offset job (now (marks .entry)) (now (marks .exit)) r ⌝ }
+{
+    match table.policy() {
+        PolicyCode::Fixed => draw_worst_course(Fixed, table, task, offset, job, marks),
+        PolicyCode::Deadline => draw_worst_course(Deadline, table, task, offset, job, marks),
+        PolicyCode::Arrival => draw_worst_course(Arrival, table, task, offset, job, marks),
+        PolicyCode::Bands => {
+            let bands = Bands::new(table.band(), Fixed, Deadline);
+            draw_worst_course(bands, table, task, offset, job, marks)
+        }
+    }
+}
+
 fn print_seen(rt: &LibcRuntime, seen: Result<Option<u32>, Refusal>) -> io::Result<()> {
     match seen {
         Ok(Some(response)) => println!(rt, " {response}"),
@@ -69,7 +87,8 @@ fn print_task(rt: &LibcRuntime, table: &Table, number: usize, task: &Task, row: 
     rt.stdout().write_all(task.name.as_bytes())?;
     let response = row.response;
     print!(rt, " {response}")?;
-    print_seen(rt, play_by_code(table, number, row))
+    print_seen(rt, play_by_code(table, number, row))?;
+    print_timeline(rt, table, number, row)
 }
 
 fn print_tasks(rt: &LibcRuntime, table: &Table, rows: &[Row]) -> io::Result<()> {
@@ -86,6 +105,34 @@ fn print_verdict(rt: &LibcRuntime, verdict: Verdict) -> io::Result<()> {
         Verdict::Admitted => println!(rt, "admitted"),
         Verdict::Late { task: _ } => println!(rt, "late"),
     }
+}
+
+// How many ticks of a course to draw: offset, response and a lead of 1; none where a line cannot hold them.
+fn ticks_to_draw(row: Row) -> usize
+    ensures { λ r. ⌜ r ≤ 200 ⌝ }
+{
+    if row.offset >= 100 || row.response >= 100 {
+        return 0;
+    }
+    (row.offset + row.response + 1) as usize
+}
+
+// One line for each task of the table.
+fn print_timeline(rt: &LibcRuntime, table: &Table, task: usize, row: Row) -> io::Result<()> {
+    let ticks = ticks_to_draw(row);
+    if ticks == 0 {
+        return Ok(());
+    }
+    for job in 0..table.count() {
+        let mut marks = [b'.'; 200];
+        let line = &mut marks[0..ticks];
+        if let Ok(true) = draw_by_code(table, task, row.offset, job, line) {
+            print!(rt, "  ")?;
+            rt.stdout().write_all(line)?;
+            println!(rt, "")?;
+        }
+    }
+    Ok(())
 }
 
 // Reads and judges.
