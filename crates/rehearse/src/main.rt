@@ -1,5 +1,8 @@
 //! Reads a table file from standard input, judges it, plays every task's worst course, and prints what was reported beside what was seen, with a timeline where a line can hold it.
-ghost use Prim.Native.Nat.{_≤_};
+ghost use Prim.Native.Nat.{_+_};
+ghost use mathlib.Core.Bool.{cond};
+ghost use mathlib.Core.Path.{_≡_};
+ghost use lib.Dec.{ltb};
 ghost use Rattle.table.specs.Model.{content};
 ghost use Rattle.analysis.specs.Judged.{Judged};
 ghost use Rattle.planning.specs.Planned.{chosen-order};
@@ -107,14 +110,12 @@ fn print_verdict(rt: &LibcRuntime, verdict: Verdict) -> io::Result<()> {
     }
 }
 
-// How many ticks of a course to draw: offset, response and a lead of 1; none where a line cannot hold them.
+// How many ticks of a course to draw: offset, response and a lead of 1; none where a line of 200 cannot hold them.
 fn ticks_to_draw(row: Row) -> usize
-    ensures { λ r. ⌜ r ≤ 200 ⌝ }
+    ensures { λ r. ⌜ r ≡ cond (ltb (row .offset + row .response) 200) (row .offset + row .response + 1) 0 ⌝ }
 {
-    if row.offset >= 100 || row.response >= 100 {
-        return 0;
-    }
-    (row.offset + row.response + 1) as usize
+    let ticks = row.offset.saturating_add(row.response);
+    if ticks < 200 { ticks as usize + 1 } else { 0 }
 }
 
 // One line for each task of the table.
