@@ -97,7 +97,8 @@ module _ (s : Task-set) (o : Order) (checked : Checked s) (law : Lawful s o) whe
   -- the answers that are written beside a judgement
   pub kept-within : (before rows : List Row) (steps written : List Step) (r : Result Judgement Refusal) → Judged s o before rows r → Replayed s o steps written r
       → made r (λ _. Within-rows rows (answers-in written)) × made r (λ j. On-time s (j .verdict) (answers-in written))
-  kept-within before rows steps written (Ok j) given (calls, told) =
-      ( subst (Within-rows rows) (sym told) (within-rows before rows j given (calls-of steps))
-      , subst (On-time s (j .verdict)) (sym told) (on-time before rows j given (calls-of steps)) )
+  kept-within before rows steps written (Ok j) given (calls, told) = (
+    subst (Within-rows rows) (sym told) (within-rows before rows j given (calls-of steps)),
+    subst (On-time s (j .verdict)) (sym told) (on-time before rows j given (calls-of steps)),
+  )
   kept-within before rows steps written (Err e) refused same = (tt, tt)

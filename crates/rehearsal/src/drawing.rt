@@ -39,7 +39,13 @@ fn mark_of(releases: bool, runs: bool) -> u8
 }
 
 // The marks of a task over all places.
-pub(crate) fn draw<P: Policy + Drop>(policy: P, table: &Table, course: &Course, job: usize, marks: &mut [u8])
+pub(crate) fn draw<P: Policy + Drop>(
+    policy: P,
+    table: &Table,
+    course: &Course,
+    job: usize,
+    marks: &mut [u8],
+)
     requires course { ⌜ Course-of (content (now table)) (meaning policy (content (now table))) (now course) ⌝ }
     requires job { ⌜ job < task-count (content (now table)) ⌝ }
     requires few { ⌜ length (now marks) ≤ 200 ⌝ }

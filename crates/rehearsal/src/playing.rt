@@ -24,7 +24,13 @@ fn response_told(given: Result<Ticked, Refusal>, job: usize, arrival: u32) -> Op
     ensures { λ r. ⌜ r ≡ told-by job arrival (tick-told given) ⌝ }
 {
     match given {
-        Ok(Ticked::Finished { task, release, response }) => if task == job && release == arrival {
+        Ok(
+            Ticked::Finished {
+                task,
+                release,
+                response,
+            },
+        ) => if task == job && release == arrival {
             Some(response)
         } else {
             None
@@ -71,7 +77,12 @@ fn release_told<P: Policy>(run: &mut Run<P>, table: &Table, course: &Course, tim
 }
 
 // One tick of the course: its releases, then a tick without done.
-pub(crate) fn play_tick<P: Policy>(run: &mut Run<P>, table: &Table, course: &Course, time: u32) -> Result<Ticked, Refusal>
+pub(crate) fn play_tick<P: Policy>(
+    run: &mut Run<P>,
+    table: &Table,
+    course: &Course,
+    time: u32,
+) -> Result<Ticked, Refusal>
     requires table { ⌜ now table ≡ now run .station .table ⌝ }
     requires course { ⌜ Course-of (content (now table)) (meaning (now run .policy) (content (now table))) (now course) ⌝ }
     ensures policy { λ _. ⌜ now (run .exit) .policy ≡ now (run .entry) .policy ⌝ }
@@ -83,7 +94,12 @@ pub(crate) fn play_tick<P: Policy>(run: &mut Run<P>, table: &Table, course: &Cou
 }
 
 // The course up to a time on a fresh run: the last that it told of the course's job.
-pub(crate) fn play<P: Policy + Drop>(policy: P, table: &Table, course: &Course, end: u32) -> Option<u32>
+pub(crate) fn play<P: Policy + Drop>(
+    policy: P,
+    table: &Table,
+    course: &Course,
+    end: u32,
+) -> Option<u32>
     requires course { ⌜ Course-of (content (now table)) (meaning policy (content (now table))) (now course) ⌝ }
     ensures { λ r. ⌜ r ≡ seen (now (course .entry) .task) (now (course .entry) .lead .ticks + now (course .entry) .offset) (answers (content (now (table .entry))) (meaning policy (content (now (table .entry)))) start (course-until (content (now (table .entry))) (meaning policy (content (now (table .entry)))) (now (course .entry) .task) (now (course .entry) .offset) end)) ⌝ }
 {

@@ -63,7 +63,13 @@ fn play_by_code(table: &Table, task: usize, row: Row) -> Result<Option<u32>, Ref
 }
 
 // The timeline of task `job` along it.
-fn draw_by_code(table: &Table, task: usize, offset: u32, job: usize, marks: &mut [u8]) -> Result<bool, Refusal>
+fn draw_by_code(
+    table: &Table,
+    task: usize,
+    offset: u32,
+    job: usize,
+    marks: &mut [u8],
+) -> Result<bool, Refusal>
     ensures { λ r. ⌜ Drawn (content (now (table .entry))) (chosen-order (content (now (table .entry)))) task offset job (now (marks .entry)) (now (marks .exit)) r ⌝ }
 {
     match table.policy() {
@@ -85,7 +91,13 @@ fn print_seen(rt: &LibcRuntime, seen: Result<Option<u32>, Refusal>) -> io::Resul
     }
 }
 
-fn print_task(rt: &LibcRuntime, table: &Table, number: usize, task: &Task, row: Row) -> io::Result<()> {
+fn print_task(
+    rt: &LibcRuntime,
+    table: &Table,
+    number: usize,
+    task: &Task,
+    row: Row,
+) -> io::Result<()> {
     print!(rt, "{number} ")?;
     rt.stdout().write_all(task.name.as_bytes())?;
     let response = row.response;

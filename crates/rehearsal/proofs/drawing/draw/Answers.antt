@@ -48,11 +48,12 @@ loop-time-again g c =
     let ticked = subst (λ q. Answered (m q s) d calls → One-tick s (m q s) course t calls e given) (inv .0) (c .play-tick-ticked .ensures .answered calls) (inv .2 .played) in
     let at-order = subst (λ q. Course-of s (m q s) course) (sym (c .new-run .ensures .policy)) (c .pre .course) in
     let releases-is : c .releases-releases .result ≡ releases-at s o (course .task) (course .offset) job t = c .releases-releases .ensures ∙ guarded job (task-count s) _ _ (c .pre .job) (at-order .told job t) in
-    let here : t < length (c .loop-time .marks) = omega (arith, c .loop-time-test .taken, c .loop-time .kept .marks) in
-    ( c .play-tick-ticked .ensures .policy ∙ inv .0
-    , c .play-tick-ticked .ensures .table ∙ inv .1
-    , drawn-more s o (course .task) (course .offset) job t d e (c .loop-time .marks) (c .mark-of .result) here (inv .2) (ticked .played)
-      (c .mark-of .ensures ∙ ap (λ b. mark b (c .runs-now .result)) releases-is ∙ ap (mark (releases-at s o (course .task) (course .offset) job t)) (c .runs-now .ensures ∙ ap (runs job) (ticked .tells))) )
+    let here : t < length (c .loop-time .marks) = omega (arith, c .loop-time-test .taken, c .loop-time .kept .marks) in (
+      c .play-tick-ticked .ensures .policy ∙ inv .0,
+      c .play-tick-ticked .ensures .table ∙ inv .1,
+      drawn-more s o (course .task) (course .offset) job t d e (c .loop-time .marks) (c .mark-of .result) here (inv .2) (ticked .played)
+          (c .mark-of .ensures ∙ ap (λ b. mark b (c .runs-now .result)) releases-is ∙ ap (mark (releases-at s o (course .task) (course .offset) job t)) (c .runs-now .ensures ∙ ap (runs job) (ticked .tells))),
+    )
 
 pub returns : need.returns
 returns g c =

@@ -44,10 +44,11 @@ loop-time-again g c =
     let ticked = subst (λ q. Answered (m q s) d calls → One-tick s (m q s) course t calls e (tick-told (c .play-tick-ticked .result))) (inv .0) (c .play-tick-ticked .ensures .answered calls) (inv .2 .played) in
     let arrival = course .lead .ticks + course .offset in
     let given = tick-told (c .play-tick-ticked .result) in
-    let tells = c .response-told-told .ensures ∙ ap (λ k. told-by k (c .arrival .result) given) (c .task .ensures) ∙ ap (λ z. told-by (course .task) z given) (c .arrival .ensures) ∙ ap (told-by (course .task) arrival) (ticked .tells) in
-    ( c .play-tick-ticked .ensures .policy ∙ inv .0
-    , c .play-tick-ticked .ensures .table ∙ inv .1
-    , shown-more s o (course .task) (course .offset) (course .lead .ticks + course .offset) t d e (c .loop-time .seen) (c .response-told-told .result) (c .latest-seen .result) (inv .2) (ticked .played) tells (c .latest-seen .ensures) )
+    let tells = c .response-told-told .ensures ∙ ap (λ k. told-by k (c .arrival .result) given) (c .task .ensures) ∙ ap (λ z. told-by (course .task) z given) (c .arrival .ensures) ∙ ap (told-by (course .task) arrival) (ticked .tells) in (
+      c .play-tick-ticked .ensures .policy ∙ inv .0,
+      c .play-tick-ticked .ensures .table ∙ inv .1,
+      shown-more s o (course .task) (course .offset) (course .lead .ticks + course .offset) t d e (c .loop-time .seen) (c .response-told-told .result) (c .latest-seen .result) (inv .2) (ticked .played) tells (c .latest-seen .ensures),
+    )
 
 pub returns : need.returns
 returns g c =

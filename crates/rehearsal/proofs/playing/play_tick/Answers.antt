@@ -25,6 +25,6 @@ returns g c =
       policy = c .tick .ensures .policy ∙ c .release-told .ensures .policy;
       table = c .tick .ensures .table ∙ c .release-told .ensures .table;
       answered = λ calls h.
-        let pair = answers-in s o (d .station) (e .station) (tick false) given (ap content same-table) (subst (λ q. Answers q (d .station) (e .station) (tick false) given) same (c .tick .ensures .answered)) (with-releases s o course (c .args .time) calls) (c .release-told .ensures .answered calls h) in
-        record { played = pair .0; tells = pair .1; };
+          let pair = answers-in s o (d .station) (e .station) (tick false) given (ap content same-table) (subst (λ q. Answers q (d .station) (e .station) (tick false) given) same (c .tick .ensures .answered)) (with-releases s o course (c .args .time) calls) (c .release-told .ensures .answered calls h) in
+          record { played = pair .0; tells = pair .1 };
     }

@@ -29,11 +29,12 @@ loop-task-again g c =
     let told = c .releases-told .result in
     let same : m (c .loop-task .run .policy) (content (d .table)) ≡ o = ap (λ q. m q (content (d .table))) (inv .0) ∙ ap (λ u. m p (content u)) (inv .1 ∙ sym (c .pre .table)) in
     let inside : n < task-count s = omega (arith, c .count-task-end .ensures) in
-    let is = c .releases-told .ensures ∙ guarded n (task-count s) _ _ inside (c .pre .course .told n (c .args .time)) in
-    ( c .release-if .ensures .policy ∙ inv .0
-    , c .release-if .ensures .table ∙ inv .1
-    , released-more s o (c .args .course .now .task) (c .args .course .now .offset) (c .args .time) (c .args .run .now .station) d e n told is (inv .2)
-      (λ cs. subst (λ q. Answered q d cs → Answered q e (cs ++ cond told (release n ∷ []) [])) same (c .release-if .ensures .answered cs)) )
+    let is = c .releases-told .ensures ∙ guarded n (task-count s) _ _ inside (c .pre .course .told n (c .args .time)) in (
+      c .release-if .ensures .policy ∙ inv .0,
+      c .release-if .ensures .table ∙ inv .1,
+      released-more s o (c .args .course .now .task) (c .args .course .now .offset) (c .args .time) (c .args .run .now .station) d e n told is (inv .2)
+          (λ cs. subst (λ q. Answered q d cs → Answered q e (cs ++ cond told (release n ∷ []) [])) same (c .release-if .ensures .answered cs)),
+    )
 
 pub returns : need.returns
 returns g c =

@@ -11,5 +11,5 @@ Inv-loop-task g l =
     (l .run .policy ≡ l .entry .run .policy)
     × (l .run .station .table ≡ l .entry .run .station .table)
     × ((calls : List Call)
-        → Answered (g .P·Policy .meaning (l .entry .run .policy) (content (l .entry .table))) (l .entry .run .station) calls
-        → Answered (g .P·Policy .meaning (l .entry .run .policy) (content (l .entry .table))) (l .run .station) (calls ++ releases-below (content (l .entry .table)) (g .P·Policy .meaning (l .entry .run .policy) (content (l .entry .table))) (l .entry .course .task) (l .entry .course .offset) (l .entry .time) (l .task)))
+    → Answered (g .P·Policy .meaning (l .entry .run .policy) (content (l .entry .table))) (l .entry .run .station) calls
+    → Answered (g .P·Policy .meaning (l .entry .run .policy) (content (l .entry .table))) (l .run .station) (calls ++ releases-below (content (l .entry .table)) (g .P·Policy .meaning (l .entry .run .policy) (content (l .entry .table))) (l .entry .course .task) (l .entry .course .offset) (l .entry .time) (l .task)))

@@ -25,7 +25,7 @@ returns-then-row-gt-CLOCK-TICKS g c =
     let row = c .args .row in
     let coursed = subst (λ q. Coursed s o (c .args .task) (row .offset) (Ok q)) (c .in-Some .is) (c .in-Continue-course .ensures tt) in
     let exact : Rehearsed s o (c .args .task) row (Ok None) = (coursed .0, sym (cond-false (playable row) _ None (and-right (ltb (row .offset) 60000) (leb (row .response) 4000000000) (lt-leb (row .response) 4000000000 (c .if-row-gt-CLOCK-TICKS .taken))))) in
-    record { exact = exact; promised = as-promised s o checked laws (c .args .task) row (Ok None) exact; }
+    record { exact = exact; promised = as-promised s o checked laws (c .args .task) row (Ok None) exact }
 
 pub returns : need.returns
 returns g c =
@@ -39,4 +39,4 @@ returns g c =
     let coursed = subst (λ q. Coursed s o (c .args .task) (row .offset) (Ok q)) (c .in-Some .is) (c .in-Continue-course .ensures tt) in
     let inside = and-from (ltb (row .offset) 60000) (leb (row .response) 4000000000) (lt-ltb (row .offset) 60000 (coursed .1)) (le-leb (row .response) 4000000000 (c .if-row-gt-CLOCK-TICKS .left)) in
     let exact : Rehearsed s o (c .args .task) row (Ok (c .play .result)) = (coursed .0, c .play .ensures ∙ shown-is s o (c .in-Some .course) (c .args .task) (row .offset) (row .response) (c .arrival .result + row .response) (coursed .2) (coursed .3) (coursed .4 .ticks) (ap (λ z. z + row .response) (c .arrival .ensures)) ∙ sym (cond-true (playable row) _ None inside)) in
-    record { exact = exact; promised = as-promised s o checked laws (c .args .task) row (Ok (c .play .result)) exact; }
+    record { exact = exact; promised = as-promised s o checked laws (c .args .task) row (Ok (c .play .result)) exact }
