@@ -1,13 +1,13 @@
 -- A timeline, one more mark at a time.
 use Prim.Native.Nat.{ℕ, suc, _+_, _≤_, _<_}
-use mathlib.Core.Bool.{Bool, false}
+use mathlib.Core.Bool.{false}
 use mathlib.Core.List.{List, [], _∷_, _++_}
 use mathlib.Core.Path.{_≡_, refl, sym, ap, subst, _∙_}
 use native.Mathlib.Numerals.{add-one}
 use lib.ListN.{length, take, set}
 use lib.Seq.{take-all}
 use Rattle.std.proofs.shelf.Lists.{take-more-set}
-use Rattle.table.specs.Rules.{Task-set, task-count}
+use Rattle.table.specs.Rules.{Task-set}
 use Rattle.policy.specs.Order.{Order}
 use Rattle.theory.specs.Course.{releases-at, course-until}
 use Rattle.theory.specs.Machine.{tick, start, play, answer}

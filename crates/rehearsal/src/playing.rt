@@ -1,6 +1,6 @@
 //! Playing a worst course on a run, tick by tick.
-ghost use Prim.Native.Nat.{ℕ, _+_};
-ghost use mathlib.Core.Bool.{true, false, cond};
+ghost use Prim.Native.Nat.{_+_};
+ghost use mathlib.Core.Bool.{false, cond};
 ghost use mathlib.Core.List.{List, [], _∷_, _++_};
 ghost use mathlib.Core.Path.{_≡_};
 ghost use Rattle.table.specs.Model.{content};

@@ -1,4 +1,4 @@
-use mathlib.Core.Path.{_≡_, sym, ap, subst, _∙_}
+use mathlib.Core.Path.{sym, ap, subst, _∙_}
 use Rattle.table.specs.Model.{content}
 use Rattle.policy.specs.Orders.{fixed-order, deadline-order, bands-order}
 use Rattle.analysis.specs.Judged.{Judged}

@@ -9,7 +9,7 @@ use Rattle.dispatch.specs.Replies.{tick-told}
 use Rattle.dispatch.specs.Represents.{Answered}
 use Rattle.rehearsal.specs.OneTick.{One-tick}
 use Rattle.rehearsal.specs.Seen.{seen, told-by}
-use Rattle.rehearsal.proofs.Steps.{Shown, shown-none, shown-more}
+use Rattle.rehearsal.proofs.Steps.{shown-none, shown-more}
 use Rattle.rehearsal.proofs.playing.play.Needs as need
 
 pub loop-time-holds : need.loop-time-holds

@@ -1,10 +1,9 @@
 use mathlib.Core.Bool.{false}
-use mathlib.Core.List.{List}
 use mathlib.Core.Path.{_≡_, sym, ap, subst, _∙_}
 use Rattle.table.specs.Model.{content}
-use Rattle.theory.specs.Machine.{Call, tick}
+use Rattle.theory.specs.Machine.{tick}
 use Rattle.dispatch.specs.Replies.{tick-told}
-use Rattle.dispatch.specs.Represents.{Answered, Answers}
+use Rattle.dispatch.specs.Represents.{Answers}
 use Rattle.rehearsal.specs.OneTick.{with-releases}
 use Rattle.rehearsal.proofs.Steps.{answers-in}
 use Rattle.rehearsal.proofs.playing.play_tick.Needs as need
