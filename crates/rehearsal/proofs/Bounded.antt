@@ -1,9 +1,9 @@
 -- The answers to a list of calls keep to the rows of a judgement.
 use Prim.Native.Nat.{ℕ, _+_, _-_, _≤_, _<_}
-use mathlib.Core.Bool.{Bool, true, false, cond}
+use mathlib.Core.Bool.{Bool, true, false}
 use mathlib.Core.List.{List, [], _∷_, _++_}
 use mathlib.Core.Logic.{_⊎_, inl, inr}
-use mathlib.Core.Path.{_≡_, refl, sym, ap, subst, _∙_}
+use mathlib.Core.Path.{_≡_, sym, subst, _∙_}
 use native.Mathlib.Omega.{arith}
 use Rattle.std.specs.declared.option.Option.{Option}
 use Rattle.std.specs.declared.option.Option.the-variants.{Some, None}
@@ -17,7 +17,7 @@ use Rattle.policy.specs.Order.{Order}
 use Rattle.policy.specs.Laws.{Lawful}
 use Rattle.theory.specs.Guarantee.{Admitted-by}
 use Rattle.theory.specs.Lists.{In}
-use Rattle.theory.specs.Machine.{Work, State, Call, release, tick, look, Answer, Finished, Ran, Refused, refusal, ends, told, waiting, job-to-run, reply, answer, answer-by, answers, play, start}
+use Rattle.theory.specs.Machine.{Work, State, Call, release, tick, look, Answer, Finished, Ran, refusal, ends, told, waiting, job-to-run, reply, answer, answer-by, answers, play, start}
 use Rattle.theory.proofs.Choice.{Choice, nobody, leader, kept, choice}
 use Rattle.theory.proofs.Courses.{play-snoc}
 use Rattle.theory.proofs.MachineFacts.{facts-after, waits-of, all-known-waiting}

@@ -2,3 +2,4 @@ pub mod Seeing
 pub mod Steps
 pub mod Promise
 pub mod Bounded
+pub mod Lines

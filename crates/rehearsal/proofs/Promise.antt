@@ -1,16 +1,16 @@
 -- A worst course that is played from the row of an admitted table shows the response of the row.
-use Prim.Native.Nat.{ℕ, _+_, _≤_, _<_}
-use mathlib.Core.Bool.{true, cond}
+use Prim.Native.Nat.{ℕ, _+_, _<_}
+use mathlib.Core.Bool.{true}
 use mathlib.Core.List.{List}
 use mathlib.Core.Path.{_≡_, refl, sym, ap, subst, _∙_}
 use native.Mathlib.Omega.{arith}
-use lib.Dec.{leb, ltb, eqb}
+use lib.Dec.{eqb}
 use Rattle.std.specs.declared.option.Option.{Option}
 use Rattle.std.specs.declared.option.Option.the-variants.{Some, None}
 use Rattle.std.specs.declared.result.Result.{Result}
 use Rattle.std.specs.declared.result.Result.the-variants.{Ok, Err}
 use Rattle.std.proofs.shelf.Tests.{lt-ltb, le-leb, eq-eqb, and-from, cond-true}
-use Rattle.table.specs.Rules.{Task-set, Checked, task-at, task-count}
+use Rattle.table.specs.Rules.{Task-set, Checked, task-count}
 use Rattle.table.specs.declared.refusal.Refusal.{Refusal}
 use Rattle.table.proofs.Ranges.{task-ranges}
 use Rattle.policy.specs.Order.{Order}
@@ -24,7 +24,7 @@ use Rattle.analysis.specs.declared.rows.Judgement.{Judgement}
 use Rattle.analysis.specs.declared.rows.Verdict.{Verdict}
 use Rattle.analysis.specs.declared.rows.Verdict.the-variants.{Admitted, Late}
 use Rattle.analysis.proofs.Promises.{rows-attained}
-use Rattle.rehearsal.specs.Seen.{seen, told-by}
+use Rattle.rehearsal.specs.Seen.{told-by}
 use Rattle.rehearsal.specs.Rehearsed.{Rehearsed, As-promised, playable, shown}
 use Rattle.rehearsal.proofs.Seeing.{seen-last}
 

@@ -3,3 +3,4 @@ pub mod OneTick
 pub mod Rehearsed
 pub mod Replayed
 pub mod Within
+pub mod Timeline

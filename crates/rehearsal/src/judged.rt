@@ -1,5 +1,4 @@
 //! A judgement, and calls that are played beside it.
-ghost use mathlib.Core.Path.{_≡_};
 ghost use Rattle.std.specs.Vec.{made};
 ghost use Rattle.table.specs.Model.{content};
 ghost use Rattle.analysis.specs.Judged.{Judged};

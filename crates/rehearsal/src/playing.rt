@@ -1,6 +1,6 @@
 //! Playing a worst course on a run, tick by tick.
-ghost use Prim.Native.Nat.{ℕ, _+_};
-ghost use mathlib.Core.Bool.{true, false, cond};
+ghost use Prim.Native.Nat.{_+_};
+ghost use mathlib.Core.Bool.{false, cond};
 ghost use mathlib.Core.List.{List, [], _∷_, _++_};
 ghost use mathlib.Core.Path.{_≡_};
 ghost use Rattle.table.specs.Model.{content};
@@ -76,16 +76,21 @@ fn release_told<P: Policy>(run: &mut Run<P>, table: &Table, course: &Course, tim
     }
 }
 
-// One tick of the course: its releases, then a tick without done; the response of the course's job where it finished.
-fn play_tick<P: Policy>(run: &mut Run<P>, table: &Table, course: &Course, time: u32) -> Option<u32>
+// One tick of the course: its releases, then a tick without done.
+pub(crate) fn play_tick<P: Policy>(
+    run: &mut Run<P>,
+    table: &Table,
+    course: &Course,
+    time: u32,
+) -> Result<Ticked, Refusal>
     requires table { ⌜ now table ≡ now run .station .table ⌝ }
     requires course { ⌜ Course-of (content (now table)) (meaning (now run .policy) (content (now table))) (now course) ⌝ }
     ensures policy { λ _. ⌜ now (run .exit) .policy ≡ now (run .entry) .policy ⌝ }
     ensures table { λ _. ⌜ now (run .exit) .station .table ≡ now (run .entry) .station .table ⌝ }
-    ensures answered { λ r. ⌜ ((calls : List Call) → Answered (meaning (now (run .entry) .policy) (content (now (table .entry)))) (now (run .entry) .station) calls → One-tick (content (now (table .entry))) (meaning (now (run .entry) .policy) (content (now (table .entry)))) (now (course .entry)) time calls (now (run .exit) .station) r) ⌝ }
+    ensures answered { λ r. ⌜ ((calls : List Call) → Answered (meaning (now (run .entry) .policy) (content (now (table .entry)))) (now (run .entry) .station) calls → One-tick (content (now (table .entry))) (meaning (now (run .entry) .policy) (content (now (table .entry)))) (now (course .entry)) time calls (now (run .exit) .station) (tick-told r)) ⌝ }
 {
     release_told(run, table, course, time);
-    response_told(run.tick(false), course.task(), course.arrival())
+    run.tick(false)
 }
 
 // The course up to a time on a fresh run: the last that it told of the course's job.
@@ -101,7 +106,8 @@ pub(crate) fn play<P: Policy + Drop>(
     let mut run = Run::new(policy, table);
     let mut seen = None;
     for time in 0..end {
-        let told = play_tick(&mut run, table, course, time);
+        let ticked = play_tick(&mut run, table, course, time);
+        let told = response_told(ticked, course.task(), course.arrival());
         seen = latest(told, seen);
     }
     seen

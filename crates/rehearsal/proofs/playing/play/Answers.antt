@@ -5,10 +5,11 @@ use Rattle.table.specs.Model.{content}
 use Rattle.theory.specs.Course.{course-until}
 use Rattle.theory.specs.Machine.{answers, start}
 use Rattle.courses.specs.OneCourse.{Course-of}
+use Rattle.dispatch.specs.Replies.{tick-told}
 use Rattle.dispatch.specs.Represents.{Answered}
 use Rattle.rehearsal.specs.OneTick.{One-tick}
-use Rattle.rehearsal.specs.Seen.{seen}
-use Rattle.rehearsal.proofs.Steps.{Shown, shown-none, shown-more}
+use Rattle.rehearsal.specs.Seen.{seen, told-by}
+use Rattle.rehearsal.proofs.Steps.{shown-none, shown-more}
 use Rattle.rehearsal.proofs.playing.play.Needs as need
 
 pub loop-time-holds : need.loop-time-holds
@@ -19,8 +20,8 @@ loop-time-holds g c =
     let course = c .args .course .now in
     (refl, refl, shown-none s (m (run .policy) s) (course .task) (course .offset) (course .lead .ticks + course .offset) (run .station) (subst (λ q. Answered (m q s) (run .station) _) (sym (c .new-run .ensures .policy)) (c .new-run .ensures .answered)))
 
-pub play-tick-told-requires : need.play-tick-told-requires
-play-tick-told-requires g c κs =
+pub play-tick-ticked-requires : need.play-tick-ticked-requires
+play-tick-ticked-requires g c κs =
     let s = content (c .args .table .now) in
     let m = g .P·Policy .meaning in
     let inv = c .loop-time .inv in
@@ -37,13 +38,16 @@ loop-time-again g c =
     let inv = c .loop-time .inv in
     let course = c .args .course .now in
     let d = c .loop-time .run .station in
-    let e = c .play-tick-told .last .run .station in
+    let e = c .play-tick-ticked .last .run .station in
     let t = c .loop-time .time in
     let calls = course-until s o (course .task) (course .offset) t in
-    let ticked = subst (λ q. Answered (m q s) d calls → One-tick s (m q s) course t calls e (c .play-tick-told .result)) (inv .0) (c .play-tick-told .ensures .answered calls) (inv .2 .played) in (
-      c .play-tick-told .ensures .policy ∙ inv .0,
-      c .play-tick-told .ensures .table ∙ inv .1,
-      shown-more s o (course .task) (course .offset) (course .lead .ticks + course .offset) t d e (c .loop-time .seen) (c .play-tick-told .result) (c .latest-seen .result) (inv .2) (ticked .played) (ticked .tells) (c .latest-seen .ensures),
+    let ticked = subst (λ q. Answered (m q s) d calls → One-tick s (m q s) course t calls e (tick-told (c .play-tick-ticked .result))) (inv .0) (c .play-tick-ticked .ensures .answered calls) (inv .2 .played) in
+    let arrival = course .lead .ticks + course .offset in
+    let given = tick-told (c .play-tick-ticked .result) in
+    let tells = c .response-told-told .ensures ∙ ap (λ k. told-by k (c .arrival .result) given) (c .task .ensures) ∙ ap (λ z. told-by (course .task) z given) (c .arrival .ensures) ∙ ap (told-by (course .task) arrival) (ticked .tells) in (
+      c .play-tick-ticked .ensures .policy ∙ inv .0,
+      c .play-tick-ticked .ensures .table ∙ inv .1,
+      shown-more s o (course .task) (course .offset) (course .lead .ticks + course .offset) t d e (c .loop-time .seen) (c .response-told-told .result) (c .latest-seen .result) (inv .2) (ticked .played) tells (c .latest-seen .ensures),
     )
 
 pub returns : need.returns

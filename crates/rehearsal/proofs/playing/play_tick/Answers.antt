@@ -1,13 +1,10 @@
 use mathlib.Core.Bool.{false}
-use mathlib.Core.List.{List}
 use mathlib.Core.Path.{_≡_, sym, ap, subst, _∙_}
-use Prim.Native.Nat.{_+_}
 use Rattle.table.specs.Model.{content}
-use Rattle.theory.specs.Machine.{Call, tick}
+use Rattle.theory.specs.Machine.{tick}
 use Rattle.dispatch.specs.Replies.{tick-told}
-use Rattle.dispatch.specs.Represents.{Answered, Answers}
+use Rattle.dispatch.specs.Represents.{Answers}
 use Rattle.rehearsal.specs.OneTick.{with-releases}
-use Rattle.rehearsal.specs.Seen.{told-by}
 use Rattle.rehearsal.proofs.Steps.{answers-in}
 use Rattle.rehearsal.proofs.playing.play_tick.Needs as need
 
@@ -28,8 +25,5 @@ returns g c =
       table = c .tick .ensures .table ∙ c .release-told .ensures .table;
       answered = λ calls h.
           let pair = answers-in s o (d .station) (e .station) (tick false) given (ap content same-table) (subst (λ q. Answers q (d .station) (e .station) (tick false) given) same (c .tick .ensures .answered)) (with-releases s o course (c .args .time) calls) (c .release-told .ensures .answered calls h) in
-          record {
-            played = pair .0;
-            tells = c .response-told .ensures ∙ ap (λ k. told-by k (c .arrival .result) given) (c .task .ensures) ∙ ap (λ at. told-by (course .task) at given) (c .arrival .ensures) ∙ ap (told-by (course .task) (course .lead .ticks + course .offset)) (pair .1);
-          };
+          record { played = pair .0; tells = pair .1 };
     }

@@ -1,12 +1,12 @@
 use mathlib.Core.Bool.{cond}
-use mathlib.Core.List.{List, [], _∷_, _++_}
+use mathlib.Core.List.{[], _∷_, _++_}
 use mathlib.Core.Path.{_≡_, refl, sym, ap, subst, _∙_}
 use Prim.Native.Nat.{_<_}
 use native.Mathlib.Omega.{arith}
 use Rattle.table.specs.Model.{content}
 use Rattle.table.specs.Rules.{task-count}
 use Rattle.theory.specs.Course.{releases-below}
-use Rattle.theory.specs.Machine.{Call, release}
+use Rattle.theory.specs.Machine.{release}
 use Rattle.dispatch.specs.Represents.{Answered}
 use Rattle.rehearsal.proofs.Steps.{guarded, released-none, released-more}
 use Rattle.rehearsal.proofs.playing.release_told.Needs as need
