@@ -1,4 +1,6 @@
 //! The judgement: response-time analysis of a checked table under any policy.
+#![tactic(auto)]
+
 pub mod busy;
 pub mod judging;
 pub mod lanes;

@@ -1,4 +1,6 @@
 //! A list of calls as a text: one character a call.
+#![tactic(auto)]
+
 ghost use Rattle.std.specs.Prelude.{◌≡◌, min, length};
 ghost use Rattle.callfile.specs.Said.{call_said, calls_said, laid_over};
 

@@ -1,4 +1,6 @@
 //! The planner for callers in C and Rust: a table file in, plain numbers out. Memory is lent by the caller; nothing is allocated.
+#![tactic(auto)]
+
 pub mod files;
 pub mod finding;
 pub mod outcome;

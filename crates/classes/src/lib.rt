@@ -1,4 +1,6 @@
 //! A policy from outside `policy`: tasks in classes, and within a class the earlier release plus an offset first.
+#![tactic(auto)]
+
 ghost use Rattle.std.specs.Prelude.{◌≡◌, true, pos, ◌+ℤ◌};
 ghost use Rattle.policy.specs.Answers.{on_clock};
 ghost use Rattle.policy.specs.Orders.{key_reach};

@@ -1,5 +1,7 @@
 //! What the programs share: reading a table file from standard input, and printing a refusal.
 //! No contract can say which bytes a program reads or prints, so these calls say what they leave in memory, and the bytes to print are made by functions whose contracts define them.
+#![tactic(auto)]
+
 ghost use Rattle.std.specs.Prelude.{◌≡◌, ◌≤◌, min, length, take, IfOk};
 ghost use Rattle.console.specs.Came.{Came};
 

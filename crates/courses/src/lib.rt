@@ -1,4 +1,6 @@
 //! Worst courses: which task releases at which tick, so that a job takes as long as it can.
+#![tactic(auto)]
+
 pub mod course;
 pub mod lead;
 pub mod told;

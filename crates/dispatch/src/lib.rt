@@ -1,4 +1,6 @@
 //! The dispatcher: a run of a checked table under any policy, tick by tick.
+#![tactic(auto)]
+
 mod front;
 mod line;
 pub mod replaying;

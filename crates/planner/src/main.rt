@@ -1,4 +1,6 @@
 //! Reads a table file from standard input and prints its report, or why it is refused.
+#![tactic(auto)]
+
 use console::{INPUT_BYTES, front, read_input};
 use planning::answer;
 use report::OUTPUT_BYTES;

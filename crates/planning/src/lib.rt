@@ -1,4 +1,6 @@
 //! The planner's main job: a table file in, its report out.
+#![tactic(auto)]
+
 ghost use Rattle.std.specs.Prelude.{◌≡◌, ℕ, List, IfOk, OnOk};
 ghost use Rattle.policy.specs.Chosen.{chosen_order};
 ghost use Rattle.analysis.specs.Judged.{Judged};

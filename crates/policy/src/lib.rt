@@ -1,4 +1,6 @@
 //! Ordering policies: what a policy is, the shipped ones, and bands of any two.
+#![tactic(auto)]
+
 pub mod arrival;
 pub mod bands;
 pub mod by_code;

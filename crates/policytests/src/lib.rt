@@ -1,4 +1,6 @@
 //! A policy from outside, judged and run: the whole guarantee by a call alone. The tests play courses that were computed by hand.
+#![tactic(auto)]
+
 ghost use Rattle.std.specs.Prelude.{IfOk, OnOk};
 ghost use Rattle.table.specs.Model.{content};
 ghost use Rattle.classes.specs.ClassOrder.{number_at, offset_at, class_order};

@@ -1,4 +1,6 @@
 //! Reads a table file from standard input and prints its tasks by their new priorities, or why there is no such order.
+#![tactic(auto)]
+
 use analysis::{Judgement, Row};
 use console::{INPUT_BYTES, front, print_refusal, read_input};
 use planning::judge_table;

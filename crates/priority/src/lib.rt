@@ -1,4 +1,6 @@
 //! Priority assignment: an order of the tasks of a table by fixed priorities in which all meet their deadlines, if there is one.
+#![tactic(auto)]
+
 pub mod assigning;
 pub mod facts;
 mod ranking;

@@ -1,4 +1,6 @@
 //! Judges the reference tables and prints for each its stretch, responses, offsets and verdict, or the number of its refusal.
+#![tactic(auto)]
+
 use analysis::{Judgement, Row, Verdict, judge};
 use cases::{CASES, Case, Plain};
 use policy::{Arrival, Bands, Deadline, Fixed};

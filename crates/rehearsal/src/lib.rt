@@ -1,4 +1,6 @@
 //! Worst courses played on a run: what a judgement promises, seen happen.
+#![tactic(auto)]
+
 mod drawing;
 pub mod judged;
 pub mod misses;

@@ -1,5 +1,7 @@
 //! Reads a table file from standard input, judges it, plays every task's worst course, and prints what was reported beside what was seen, with a timeline where a line can hold it.
 //! Then prints the answers to the calls of the file that it is given, if it is given one.
+#![tactic(auto)]
+
 use analysis::{Judgement, Row};
 use callfile::read_calls;
 use console::{INPUT_BYTES, front, print_refusal, read_input};

@@ -1,4 +1,6 @@
 //! The report of a judgement, written as text into lent bytes.
+#![tactic(auto)]
+
 mod lines;
 pub mod place;
 mod refused;

@@ -1,4 +1,6 @@
 //! The task table: tasks, scheduling mode, policy code, refusals, and the checked table that everything else takes.
+#![tactic(auto)]
+
 pub mod checked;
 pub mod kinds;
 pub mod name;

@@ -8,5 +8,5 @@ kept : follows_rules Fixed 0 (fresh_task ∷ []) ≡ true
 unfolding follows_rules
 kept = refl
 
-pub invariant-of-result : goal.invariant-of-result
-invariant-of-result c = (refl, (lit≤ tt, (ap (λ t. follows_rules Fixed 0 (t ∷ [])) c.fresh.ensures ∙ kept, tt)))
+pub invariant_of-result : goal.invariant_of-result
+invariant_of-result c = record { room = refl; few = lit≤ tt; rules = ap (λ t. follows_rules Fixed 0 (t ∷ [])) c.fresh.ensures ∙ kept }

@@ -7,8 +7,8 @@ use Rattle.table.proofs.checked.build.follows_rules.Goals as goal
 pub returns : goal.returns
 returns c =
     let ts = c.args.tasks.now in
-    let parts = rules_inside c.args.policy c.args.band (map sporadic ts) (length ts) (length-map ts sporadic) c.if-count-lt1.false c.if-count-gt-MOST-TASKS.false in
-    rw (c.band_in_range.ensures, c.tasks-in-range.ensures, c.ranks_differ.ensures) parts
+    let parts = rules_inside c.args.policy c.args.band (map sporadic ts) (length ts) (length-map ts sporadic) c.if-count-lt1.false c.if-count-gt-MOST_TASKS.false in
+    rw (c.band_in_range.ensures, c.tasks_in_range.ensures, c.ranks_differ.ensures) parts
 
 pub returns-then-count-lt1 : goal.returns-then-count-lt1
 returns-then-count-lt1 c =

@@ -21,12 +21,12 @@ whole bs room at low high same =
     let end : at ≡ length bs = omega arith in
     subst (λ k. take k room ≡ take k bs) end same ∙ take_all (length bs) bs (omega arith)
 
-pub invariant-of-result : goal.invariant-of-result
-invariant-of-result c =
-    let kept : name_in_range c.args.bytes.now ≡ true = long_enough c.args.bytes.now c.if-len-lt1.false c.if-len-gt8.false (sym c.if-not-all-name-bytes.ensures) in
-    (c.loop-at.invariant.0, (c.if-len-gt8.false, (ap name_in_range (whole c.args.bytes.now c.loop-at.room c.loop-at.at c.loop-at.auto.at-end c.loop-at-test.false c.loop-at.invariant.1) ∙ kept, tt)))
+pub invariant_of-result : goal.invariant_of-result
+invariant_of-result c =
+    let kept : name_in_range c.args.bytes.now ≡ true = long_enough c.args.bytes.now c.if-len-lt1.false c.if-len-gt8.false (sym c.if-not-all_name_bytes.ensures) in
+    record { room = c.loop-at.invariant.0; few = c.if-len-gt8.false; rules = ap name_in_range (whole c.args.bytes.now c.loop-at.room c.loop-at.at c.loop-at.auto.at-end c.loop-at-test.false c.loop-at.invariant.1) ∙ kept }
 
 pub returns : goal.returns
 returns c =
-    let kept : name_in_range c.args.bytes.now ≡ true = long_enough c.args.bytes.now c.if-len-lt1.false c.if-len-gt8.false (sym c.if-not-all-name-bytes.ensures) in
+    let kept : name_in_range c.args.bytes.now ≡ true = long_enough c.args.bytes.now c.if-len-lt1.false c.if-len-gt8.false (sym c.if-not-all_name_bytes.ensures) in
     (kept, whole c.args.bytes.now c.loop-at.room c.loop-at.at c.loop-at.auto.at-end c.loop-at-test.false c.loop-at.invariant.1)
