@@ -4,8 +4,8 @@ use Rattle.table.proofs.Tables.{table_checked}
 use Rattle.policy.proofs.Past.{deadline_small}
 use Rattle.policy.proofs.deadline.DeadlinePolicy.reach.Goals as goal
 
-pub keyed-reach-requires : goal.keyed-reach-requires
-keyed-reach-requires c =
+pub keyed_reach-requires : goal.keyed_reach-requires
+keyed_reach-requires c =
     let t = c.args.table.now in
     let m = deadline_small (content t) (table_checked t) c.args.from in
     let n = deadline_small (content t) (table_checked t) c.args.to in
