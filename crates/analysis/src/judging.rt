@@ -32,7 +32,7 @@ fn lead_of(reach: Reach) -> u32
 
 // The lane of task j in the analysis of task i.
 fn lane_to<P: Policy>(policy: &P, table: &Table, i: usize, j: usize) -> Lane
-    ensures { j < task_count (content table.now) → LaneTo (content table.now) (meaning policy.now (content table.now)) i j result }
+    ensures { j < task_count (content table.now) → LaneTo (content table.now) (P.meaning policy.now (content table.now)) i j result }
 {
     let lead = lead_of(policy.reach(table, i, j));
     match table.task(j) {
@@ -49,7 +49,7 @@ fn lane_to<P: Policy>(policy: &P, table: &Table, i: usize, j: usize) -> Lane
 // The lanes of all tasks in the analysis of task i.
 fn lanes_of<P: Policy>(policy: &P, table: &Table, i: usize) -> [Lane; 24]
     ensures room { length result ≡ 24 }
-    ensures each { (j : ℕ) → j < task_count (content table.now) → LaneTo (content table.now) (meaning policy.now (content table.now)) i j (lane_at result j) }
+    ensures each { (j : ℕ) → j < task_count (content table.now) → LaneTo (content table.now) (P.meaning policy.now (content table.now)) i j (lane_at result j) }
 {
     let mut lanes = [IDLE; 24];
     for j in 0..table.count() {
@@ -62,7 +62,7 @@ fn lanes_of<P: Policy>(policy: &P, table: &Table, i: usize) -> [Lane; 24]
 fn row_of<P: Policy>(policy: &P, table: &Table, busy: u32, i: usize) -> Row
     requires busy { BusyPeriod (content table.now) busy }
     requires short { busy ≤ 60000 }
-    ensures { i < task_count (content table.now) → RowOf (content table.now) (meaning policy.now (content table.now)) busy i result }
+    ensures { i < task_count (content table.now) → RowOf (content table.now) (P.meaning policy.now (content table.now)) busy i result }
 {
     let mut lanes = lanes_of(policy, table, i);
     match table.task(i) {
@@ -104,7 +104,7 @@ fn fill_rows<P: Policy>(policy: &P, table: &Table, busy: u32, rows: &mut [Row])
     requires busy { BusyPeriod (content table.now) busy }
     requires short { busy ≤ 60000 }
     requires enough { task_count (content table.now) ≤ length rows.old }
-    ensures each { (i : ℕ) → i < task_count (content table.now) → RowOf (content table.now) (meaning policy.now (content table.now)) busy i (row_at rows.new i) }
+    ensures each { (i : ℕ) → i < task_count (content table.now) → RowOf (content table.now) (P.meaning policy.now (content table.now)) busy i (row_at rows.new i) }
     ensures rest { drop (task_count (content table.now)) rows.new ≡ drop (task_count (content table.now)) rows.old }
 {
     for i in 0..table.count() {
@@ -116,10 +116,10 @@ fn fill_rows<P: Policy>(policy: &P, table: &Table, busy: u32, rows: &mut [Row])
 /// For every run of the table under the policy: no job is unfinished as long after its release as its row's response, in an admitted table each task's worst course attains it, and the table is late exactly when some list of calls leaves a job unfinished at its deadline.
 /// Refused, with the rows as they were, where fewer rows are lent than there are tasks, and then where there is no busy period of up to 60,000 ticks.
 pub fn judge<P: Policy>(policy: &P, table: &Table, rows: &mut [Row]) -> Result<Judgement, Refusal>
-    ensures judged { Judged (content table.now) (meaning policy.now (content table.now)) rows.old rows.new result }
-    ensures never_longer { OnOk result (RowsBound (content table.now) (meaning policy.now (content table.now)) rows.new) }
-    ensures attained { IfOk result (λ j. RowsAttained (content table.now) (meaning policy.now (content table.now)) rows.new j.verdict) }
-    ensures late_exactly { IfOk result (λ j. VerdictExact (content table.now) (meaning policy.now (content table.now)) j.verdict) }
+    ensures judged { Judged (content table.now) (P.meaning policy.now (content table.now)) rows.old rows.new result }
+    ensures never_longer { OnOk result (RowsBound (content table.now) (P.meaning policy.now (content table.now)) rows.new) }
+    ensures attained { IfOk result (λ j. RowsAttained (content table.now) (P.meaning policy.now (content table.now)) rows.new j.verdict) }
+    ensures late_exactly { IfOk result (λ j. VerdictExact (content table.now) (P.meaning policy.now (content table.now)) j.verdict) }
 {
     let count = table.count();
     if rows.len() < count {
@@ -138,7 +138,7 @@ pub fn judge<P: Policy>(policy: &P, table: &Table, rows: &mut [Row]) -> Result<J
 /// The row of one task of a table under a policy.
 /// Refused where the table has no such task, and then where there is no busy period of up to 60,000 ticks.
 pub fn analyse_task<P: Policy>(policy: &P, table: &Table, task: usize) -> Result<Row, Refusal>
-    ensures { Analysed (content table.now) (meaning policy.now (content table.now)) task result }
+    ensures { Analysed (content table.now) (P.meaning policy.now (content table.now)) task result }
 {
     if task >= table.count() {
         return Err(Refusal::NoTaskToJudge { task });

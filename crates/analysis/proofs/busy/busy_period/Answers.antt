@@ -31,17 +31,17 @@ module _ (t : Table) (ls : List Lane) (n : ℕ) (long : length ls ≡ 24) (count
   found None none = none_overloaded (content t) (table_checked t) front same_count all_full none
   found (Some L) (low, high, covers, first) = (high, climbed_busy (content t) (table_checked t) front same_count all_full L low high covers first)
 
-pub slice-bounds-climb-end : goal.slice-bounds-climb-end
-slice-bounds-climb-end c = let few : c.count.result ≤ 24 = omega (arith, few_tasks c.args.table.now, c.count.ensures) in search rules
+pub slice_bounds-climb-end : goal.slice_bounds-climb-end
+slice_bounds-climb-end c = let few : c.count.result ≤ 24 = omega (arith, few_tasks c.args.table.now, c.count.ensures) in search rules
 
 pub climb-requires : goal.climb-requires
 unfolding front
 climb-requires c = record {
-  sound = sound c.args.table.now c.full-lanes-lanes.result c.count.result c.full-lanes-lanes.ensures.room c.count.ensures c.full-lanes-lanes.ensures.each;
+  sound = sound c.args.table.now c.full_lanes-lanes.result c.count.result c.full_lanes-lanes.ensures.room c.count.ensures c.full_lanes-lanes.ensures.each;
   short = omega arith;
   light = omega arith;
 }
 
 pub returns : goal.returns
 unfolding front
-returns c = found c.args.table.now c.full-lanes-lanes.result c.count.result c.full-lanes-lanes.ensures.room c.count.ensures c.full-lanes-lanes.ensures.each c.climb.result c.climb.ensures
+returns c = found c.args.table.now c.full_lanes-lanes.result c.count.result c.full_lanes-lanes.ensures.room c.count.ensures c.full_lanes-lanes.ensures.each c.climb.result c.climb.ensures

@@ -6,8 +6,8 @@ use Rattle.analysis.specs.Lanes.{no_lane}
 use Rattle.analysis.proofs.Filling.{filled_more, few_tasks}
 use Rattle.analysis.proofs.busy.full_lanes.Goals as goal
 
-pub offset-bounds-lanes-j : goal.offset-bounds-lanes-j
-offset-bounds-lanes-j c = let few : c.loop-j.j < 24 = omega (arith, few_tasks c.args.table.now, c.count-j-end.ensures, c.loop-j-test.true) in search rules
+pub offset_bounds-lanes-j : goal.offset_bounds-lanes-j
+offset_bounds-lanes-j c = let few : c.loop-j.j < 24 = omega (arith, few_tasks c.args.table.now, c.count-j-end.ensures, c.loop-j-test.true) in search rules
 
 pub bounds-lanes-j : goal.bounds-lanes-j
 bounds-lanes-j c = omega (arith, few_tasks c.args.table.now, c.count-j-end.ensures, c.loop-j-test.true)
@@ -19,6 +19,6 @@ loop-j-preserved c =
     let s = content c.args.table.now in
     let here : j < length ls = omega (arith, few_tasks c.args.table.now, c.count-j-end.ensures, c.loop-j-test.true, c.loop-j.invariant.0) in
     let known : j < task_count s = omega (arith, c.count-j-end.ensures, c.loop-j-test.true) in (
-      length-set ls j c.full-lane.result ∙ c.loop-j.invariant.0,
-      filled_more no_lane (λ k l. FullLane (task_at s k) l) ls j c.full-lane.result here c.loop-j.invariant.1 (c.full-lane.ensures known),
+      length-set ls j c.full_lane.result ∙ c.loop-j.invariant.0,
+      filled_more no_lane (λ k l. FullLane (task_at s k) l) ls j c.full_lane.result here c.loop-j.invariant.1 (c.full_lane.ensures known),
     )

@@ -12,6 +12,6 @@ loop-i-preserved g c =
     let rows = c.loop-i.rows in
     let known : i < task_count s = omega (arith, c.count-i-end.ensures, c.loop-i-test.true) in
     let here : i < length rows = omega (arith, known, c.requires.enough, c.loop-i.auto.rows) in (
-      filled_more no_row (λ k row. RowOf s (g.P.Policy.meaning c.args.policy.now s) c.args.busy k row) rows i c.row-of.result here c.loop-i.invariant.0 (c.row-of.ensures known),
-      rest_more rows c.args.rows.now i c.row-of.result c.loop-i.invariant.1,
+      filled_more no_row (λ k row. RowOf s (g.P.Policy.meaning c.args.policy.now s) c.args.busy k row) rows i c.row_of.result here c.loop-i.invariant.0 (c.row_of.ensures known),
+      rest_more rows c.args.rows.now i c.row_of.result c.loop-i.invariant.1,
     )

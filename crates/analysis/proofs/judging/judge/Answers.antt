@@ -32,16 +32,16 @@ returns g c =
     let met = g.met.P.Policy in
     let checked = table_checked t in
     let laws = lawful s o (met.total p s checked) (met.transitive p s checked) (met.earlier p s checked) (met.range p s checked) (met.rule p s checked) in
-    let after = c.fill-rows.new.rows in
+    let after = c.fill_rows.new.rows in
     let found = c.in-Some.ensures in
-    let enough : n ≤ length after = omega (arith, c.if-rows-count.false, c.fill-rows.auto.rows) in
-    let j : Judgement = record { busy_period = c.in-Some.busy-period; verdict = c.verdict.result } in
+    let enough : n ≤ length after = omega (arith, c.if-rows-count.false, c.fill_rows.auto.rows) in
+    let j : Judgement = record { busy_period = c.in-Some.busy_period; verdict = c.verdict.result } in
     let given : Given s o c.args.rows.now after j = record {
       enough = omega (arith, c.if-rows-count.false, c.count-count.ensures);
       short = found.0;
       busy = found.1;
-      rows = c.fill-rows.ensures.each;
-      rest = c.fill-rows.ensures.rest;
+      rows = c.fill_rows.ensures.each;
+      rest = c.fill_rows.ensures.rest;
       verdict = subst (λ m. VerdictOf m after c.verdict.result) c.count-count.ensures (front_verdict after n enough c.verdict.result c.verdict.ensures);
     } in
     record {

@@ -6,8 +6,8 @@ use Rattle.analysis.specs.Lanes.{no_lane}
 use Rattle.analysis.proofs.Filling.{filled_more, few_tasks}
 use Rattle.analysis.proofs.judging.lanes_of.Goals as goal
 
-pub offset-bounds-lanes-j : goal.offset-bounds-lanes-j
-offset-bounds-lanes-j g c = let few : c.loop-j.j < 24 = omega (arith, few_tasks c.args.table.now, c.count-j-end.ensures, c.loop-j-test.true) in search rules
+pub offset_bounds-lanes-j : goal.offset_bounds-lanes-j
+offset_bounds-lanes-j g c = let few : c.loop-j.j < 24 = omega (arith, few_tasks c.args.table.now, c.count-j-end.ensures, c.loop-j-test.true) in search rules
 
 pub bounds-lanes-j : goal.bounds-lanes-j
 bounds-lanes-j g c = omega (arith, few_tasks c.args.table.now, c.count-j-end.ensures, c.loop-j-test.true)
@@ -19,6 +19,6 @@ loop-j-preserved g c =
     let s = content c.args.table.now in
     let here : j < length ls = omega (arith, few_tasks c.args.table.now, c.count-j-end.ensures, c.loop-j-test.true, c.loop-j.invariant.0) in
     let known : j < task_count s = omega (arith, c.count-j-end.ensures, c.loop-j-test.true) in (
-      length-set ls j c.lane-to.result ∙ c.loop-j.invariant.0,
-      filled_more no_lane (λ k l. LaneTo s (g.P.Policy.meaning c.args.policy.now s) c.args.i k l) ls j c.lane-to.result here c.loop-j.invariant.1 (c.lane-to.ensures known),
+      length-set ls j c.lane_to.result ∙ c.loop-j.invariant.0,
+      filled_more no_lane (λ k l. LaneTo s (g.P.Policy.meaning c.args.policy.now s) c.args.i k l) ls j c.lane_to.result here c.loop-j.invariant.1 (c.lane_to.ensures known),
     )

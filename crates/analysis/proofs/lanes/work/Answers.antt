@@ -8,8 +8,8 @@ loop-lane-init c =
     let f : ℕ → ℕ = λ j. lane_jobs (lane_at c.args.lanes.now j) c.args.t * (lane_at c.args.lanes.now j).cost in
     (omega (arith, sum_none f), omega arith)
 
-pub overflow-add-sum : goal.overflow-add-sum
-overflow-add-sum c = search (rules, c.share-sum.ensures.bound, c.loop-lane.invariant.1, c.requires.sound.few)
+pub overflow_add-sum : goal.overflow_add-sum
+overflow_add-sum c = search (rules, c.share-sum.ensures.bound, c.loop-lane.invariant.1, c.requires.sound.few)
 
 pub loop-lane-preserved : goal.loop-lane-preserved
 loop-lane-preserved c =

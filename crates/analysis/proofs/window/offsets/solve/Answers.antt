@@ -8,9 +8,9 @@ use Rattle.analysis.proofs.window.offsets.solve.Goals as goal
 
 pub climb-requires : goal.climb-requires
 climb-requires c = record {
-  sound = subst Sound (sym c.set-limits.ensures) (limited_sound c.args.a c.args.lanes.now c.requires.sound);
+  sound = subst Sound (sym c.set_limits.ensures) (limited_sound c.args.a c.args.lanes.now c.requires.sound);
   short = c.requires.short;
-  light = c.own-work-work.ensures.light;
+  light = c.own_work-work.ensures.light;
 }
 
 -- the climbed work is the window's
@@ -23,14 +23,14 @@ returns-in-Some c =
     let ls = c.args.lanes.now in
     let a = c.args.a in
     let at = c.in-Some.at in
-    let work = c.own-work-work.result in
-    let same : (v : ℕ) → work + lanes_work c.set-limits.new.lanes v ≡ window_work w ls a v = same_work w ls c.set-limits.new.lanes a work c.set-limits.ensures c.own-work-work.ensures.value in
+    let work = c.own_work-work.result in
+    let same : (v : ℕ) → work + lanes_work c.set_limits.new.lanes v ≡ window_work w ls a v = same_work w ls c.set_limits.new.lanes a work c.set_limits.ensures c.own_work-work.ensures.value in
     let climbed = c.in-Some.ensures in
     let begin = restart_low work c.args.last.work c.args.last.at c.restart-start.result (λ v. lanes_work (map (limited a) ls) v) c.restart-start.ensures c.requires.from c.requires.low in
-    let first : (v : ℕ) → 1 ≤ v → window_work w ls a v ≤ v → at ≤ v = λ v from covers. climbed.3 v (begin.1 v from (omega (arith, covers, c.own-work-work.ensures.value))) (omega (arith, same v, covers)) in
+    let first : (v : ℕ) → 1 ≤ v → window_work w ls a v ≤ v → at ≤ v = λ v from covers. climbed.3 v (begin.1 v from (omega (arith, covers, c.own_work-work.ensures.value))) (omega (arith, same v, covers)) in
     record {
-      lanes = c.set-limits.ensures;
-      work = c.own-work-work.ensures.value;
+      lanes = c.set_limits.ensures;
+      work = c.own_work-work.ensures.value;
       solved = solved_window w ls a c.requires.sound c.requires.own at (omega (arith, begin.0, climbed.0)) (omega (arith, same at, climbed.2)) first;
       inside = climbed.1;
       low = first;
@@ -48,6 +48,6 @@ returns-in-None c =
     let w = c.args.own in
     let ls = c.args.lanes.now in
     let a = c.args.a in
-    let work = c.own-work-work.result in
+    let work = c.own_work-work.result in
     let begin = restart_low work c.args.last.work c.args.last.at c.restart-start.result (λ v. lanes_work (map (limited a) ls) v) c.restart-start.ensures c.requires.from c.requires.low in
-    absurd (never w ls c.set-limits.new.lanes a c.args.busy work c.restart-start.result c.set-limits.ensures c.own-work-work.ensures.value c.requires.fits (omega (arith, c.requires.inside)) begin.1 c.in-None.ensures)
+    absurd (never w ls c.set_limits.new.lanes a c.args.busy work c.restart-start.result c.set_limits.ensures c.own_work-work.ensures.value c.requires.fits (omega (arith, c.requires.inside)) begin.1 c.in-None.ensures)
