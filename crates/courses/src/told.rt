@@ -60,7 +60,7 @@ pub fn worst_course<P: Policy>(
     j: usize,
     t: u32,
 ) -> Result<bool, Refusal>
-    ensures { Told (content table.now) (meaning policy.now (content table.now)) i a j t result }
+    ensures { Told (content table.now) (P.meaning policy.now (content table.now)) i a j t result }
 {
     let lead = worst_course_lead(policy, table, i, a)?;
     match table.task(j) {

@@ -19,7 +19,7 @@ impl Course {
         task: usize,
         offset: u32,
     ) -> Result<Option<Course>, Refusal>
-        ensures { Coursed (content table.now) (meaning policy.now (content table.now)) task offset result }
+        ensures { Coursed (content table.now) (P.meaning policy.now (content table.now)) task offset result }
     {
         let lead = worst_course_lead(policy, table, task, offset)?;
         if offset >= OFFSET_LIMIT {

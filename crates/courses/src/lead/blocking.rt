@@ -19,7 +19,7 @@ fn is_behind<P: Policy>(policy: &P, table: &Table, i: usize, a: u32, j: usize) -
     requires known { i < task_count (content table.now) }
     requires short { a < 60000 }
     requires other { j ≢ i }
-    ensures { j < task_count (content table.now) → result ≡ (meaning policy.now (content table.now)).ahead (job i (pos a)) (job j (negsuc 0)) }
+    ensures { j < task_count (content table.now) → result ≡ (P.meaning policy.now (content table.now)).ahead (job i (pos a)) (job j (negsuc 0)) }
 {
     let first = Job {
         task: i,
@@ -36,7 +36,7 @@ fn is_behind<P: Policy>(policy: &P, table: &Table, i: usize, a: u32, j: usize) -
 fn block_of<P: Policy>(policy: &P, table: &Table, i: usize, a: u32, j: usize) -> u32
     requires known { i < task_count (content table.now) }
     requires short { a < 60000 }
-    ensures { j < task_count (content table.now) → result ≡ (if nat_eq j i then 0 else (if (meaning policy.now (content table.now)).ahead (job i (pos a)) (job j (negsuc 0)) then (task_at (content table.now) j).cost - 1 else 0)) }
+    ensures { j < task_count (content table.now) → result ≡ (if nat_eq j i then 0 else (if (P.meaning policy.now (content table.now)).ahead (job i (pos a)) (job j (negsuc 0)) then (task_at (content table.now) j).cost - 1 else 0)) }
 {
     if j == i {
         return 0;
@@ -54,7 +54,7 @@ fn block_of<P: Policy>(policy: &P, table: &Table, i: usize, a: u32, j: usize) ->
 fn blocking_at<P: Policy>(policy: &P, table: &Table, i: usize, a: u32) -> u32
     requires known { i < task_count (content table.now) }
     requires short { a < 60000 }
-    ensures { result ≡ blocking (content table.now) (meaning policy.now (content table.now)) i a }
+    ensures { result ≡ blocking (content table.now) (P.meaning policy.now (content table.now)) i a }
 {
     let mut longest: u32 = 0;
     for j in 0..table.count() {
@@ -66,7 +66,7 @@ fn blocking_at<P: Policy>(policy: &P, table: &Table, i: usize, a: u32) -> u32
 fn course_blocking<P: Policy>(policy: &P, table: &Table, i: usize, a: u32) -> u32
     requires known { i < task_count (content table.now) }
     requires short { a < 60000 }
-    ensures { result ≡ course_blocking (content table.now) (meaning policy.now (content table.now)) i a }
+    ensures { result ≡ course_blocking (content table.now) (P.meaning policy.now (content table.now)) i a }
 {
     match table.mode() {
         Mode::Preemptive => 0,
@@ -85,8 +85,8 @@ fn is_blocker<P: Policy>(
 ) -> bool
     requires known { i < task_count (content table.now) }
     requires short { a < 60000 }
-    requires longest { longest ≡ course_blocking (content table.now) (meaning policy.now (content table.now)) i a }
-    ensures { j < task_count (content table.now) → result ≡ blocks (content table.now) (meaning policy.now (content table.now)) i a j }
+    requires longest { longest ≡ course_blocking (content table.now) (P.meaning policy.now (content table.now)) i a }
+    ensures { j < task_count (content table.now) → result ≡ blocks (content table.now) (P.meaning policy.now (content table.now)) i a j }
 {
     if j == i {
         return false;
@@ -104,8 +104,8 @@ fn is_blocker<P: Policy>(
 fn blocker_at<P: Policy>(policy: &P, table: &Table, i: usize, a: u32, longest: u32) -> usize
     requires known { i < task_count (content table.now) }
     requires short { a < 60000 }
-    requires longest { longest ≡ course_blocking (content table.now) (meaning policy.now (content table.now)) i a }
-    ensures { result ≡ blocker (content table.now) (meaning policy.now (content table.now)) i a }
+    requires longest { longest ≡ course_blocking (content table.now) (P.meaning policy.now (content table.now)) i a }
+    ensures { result ≡ blocker (content table.now) (P.meaning policy.now (content table.now)) i a }
 {
     let count = table.count();
     for j in 0..count {
@@ -123,7 +123,7 @@ pub fn worst_course_lead<P: Policy>(
     task: usize,
     offset: u32,
 ) -> Result<Lead, Refusal>
-    ensures { Led (content table.now) (meaning policy.now (content table.now)) task offset result }
+    ensures { Led (content table.now) (P.meaning policy.now (content table.now)) task offset result }
 {
     if task >= table.count() {
         return Err(Refusal::NoTaskToJudge { task });

@@ -10,10 +10,10 @@ pub releases-requires : goal.releases-requires
 releases-requires g c =
     let t = c.args.table.now in
     let found = c.in-Some.ensures in
-    let led = c.in-ok-lead.ensures in
+    let led = c.in_ok-lead.ensures in
     let s = content t in
     record {
-      lead = short_lead s (g.P.Policy.meaning c.args.policy.now s) c.args.i c.args.a c.in-ok-lead.lead.ticks led.1;
-      short = c.if-a-ge-OFFSET-LIMIT.false;
+      lead = short_lead s (g.P.Policy.meaning c.args.policy.now s) c.args.i c.args.a c.in_ok-lead.lead.ticks led.1;
+      short = c.if-a-ge-OFFSET_LIMIT.false;
       period = omega (arith, ap (λ (x : Sporadic). x.period) found.1, (task_ranges s (table_checked t) c.args.j found.0).period_low);
     }

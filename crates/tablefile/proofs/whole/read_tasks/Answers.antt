@@ -6,14 +6,14 @@ use Rattle.tablefile.proofs.Turns.{stored_more, refused_here}
 use Rattle.tablefile.proofs.Accepted.{name_good}
 use Rattle.tablefile.proofs.whole.read_tasks.Goals as goal
 
-pub returns-in-err-fields : goal.returns-in-err-fields
-returns-in-err-fields c =
-    let p = err_from_is_err_and c.from-residual.result c.from-residual.ensures.1 in
+pub returns-in_err-fields : goal.returns-in_err-fields
+returns-in_err-fields c =
+    let p = err_from_is_err_and c.from_residual.result c.from_residual.ensures.1 in
     let l = c.loop-at in
-    rw (p.1, p.2) (refused_here c.args.src.now c.args.count l.at l.pos l.room c.loop-at-test.true l.invariant.2 c.in-err-fields.field-0.0 c.in-err-fields.ensures.value)
+    rw (p.1, p.2) (refused_here c.args.src.now c.args.count l.at l.pos l.room c.loop-at-test.true l.invariant.2 c.in_err-fields.field-0.0 c.in_err-fields.ensures.value)
 
 pub stored-requires : goal.stored-requires
-stored-requires c = name_good c.args.src.now (λ i. omega (arith, c.type-inv.src i)) c.loop-at.pos c.args.count (map sporadic (take (c.loop-at.at - 0) c.loop-at.room)) (task_said c.in-ok-fields.fields) c.in-ok-fields.ensures.value
+stored-requires c = name_good c.args.src.now (λ i. omega (arith, c.type_inv.src i)) c.loop-at.pos c.args.count (map sporadic (take (c.loop-at.at - 0) c.loop-at.room)) (task_said c.in_ok-fields.fields) c.in_ok-fields.ensures.value
 
 pub loop-at-preserved : goal.loop-at-preserved
 loop-at-preserved c =
@@ -22,5 +22,5 @@ loop-at-preserved c =
     let inside : l.at < length l.room = omega (arith, l.invariant.0, c.loop-at-test.true) in (
       omega (arith, long, l.invariant.0),
       long ∙ l.invariant.1,
-      stored_more c.args.src.now c.args.count l.at l.pos l.room c.loop-at-test.true l.invariant.2 c.stored.result (task_said c.in-ok-fields.fields) inside c.in-ok-fields.ensures.value c.stored.ensures,
+      stored_more c.args.src.now c.args.count l.at l.pos l.room c.loop-at-test.true l.invariant.2 c.stored.result (task_said c.in_ok-fields.fields) inside c.in_ok-fields.ensures.value c.stored.ensures,
     )

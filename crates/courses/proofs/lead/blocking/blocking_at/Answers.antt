@@ -15,7 +15,7 @@ pub loop-j-preserved : goal.loop-j-preserved
 loop-j-preserved g c =
     let s = content c.args.table.now in
     let known : c.loop-j.j < task_count s = omega (arith, c.count-j-end.ensures, c.loop-j-test.true) in
-    c.max-longest.ensures ∙ ap₂ max c.loop-j.invariant (c.block-of.ensures known) ∙ sym (max_more (λ j. cond (eqb j c.args.i) 0 (cond ((g.P.Policy.meaning c.args.policy.now s).ahead (job c.args.i (pos c.args.a)) (job j (negsuc 0))) ((task_at s j).cost - 1) 0)) c.loop-j.j)
+    c.max-longest.ensures ∙ ap₂ max c.loop-j.invariant (c.block_of.ensures known) ∙ sym (max_more (λ j. cond (eqb j c.args.i) 0 (cond ((g.P.Policy.meaning c.args.policy.now s).ahead (job c.args.i (pos c.args.a)) (job j (negsuc 0))) ((task_at s j).cost - 1) 0)) c.loop-j.j)
 
 pub returns : goal.returns
 returns g c =
