@@ -42,7 +42,7 @@ fn looked(given: Result<Counts, Refusal>) -> Reply
 fn make<P: Policy>(run: &mut Run<P>, call: Event) -> Reply
     ensures policy { run.new.policy ≡ run.old.policy }
     ensures table { run.new.station.table ≡ run.old.station.table }
-    ensures answered { Answers (meaning run.old.policy (content run.old.station.table)) run.old.station run.new.station (call_of call) (reply_told result) }
+    ensures answered { Answers (P.meaning run.old.policy (content run.old.station.table)) run.old.station run.new.station (call_of call) (reply_told result) }
 {
     match call {
         Event::Release { task } => released(run.release(task)),
@@ -54,7 +54,7 @@ fn make<P: Policy>(run: &mut Run<P>, call: Event) -> Reply
 /// Makes the calls of these steps on a fresh run, in their order, and writes the answer to each beside it.
 pub fn replay<P: Policy + Drop>(policy: P, table: &Table, steps: &mut [Step])
     ensures calls { calls_in steps.new ≡ calls_in steps.old }
-    ensures answers { answers_in steps.new ≡ answers (content table.now) (meaning policy (content table.now)) start (calls_of steps.old) }
+    ensures answers { answers_in steps.new ≡ answers (content table.now) (P.meaning policy (content table.now)) start (calls_of steps.old) }
 {
     let mut run = Run::new(policy, table);
     for at in 0..steps.len() {

@@ -22,7 +22,7 @@ use table::{Mode, Refusal, Table};
 
 // The better of the best head so far and the first job of a later task, if one waits.
 fn better<P: Policy>(policy: &P, table: &Table, best: Head, task: usize, first: Option<u32>) -> Head
-    ensures { Some result ≡ better_of (ahead_answer (content table.now) (meaning policy.now (content table.now))) (Some best) task first }
+    ensures { Some result ≡ better_of (ahead_answer (content table.now) (P.meaning policy.now (content table.now))) (Some best) task first }
 {
     let Some(release) = first else {
         return best;
@@ -44,7 +44,7 @@ fn better<P: Policy>(policy: &P, table: &Table, best: Head, task: usize, first: 
 
 // The job that leads all that wait. The table is copied only where one waits.
 fn leader<P: Policy>(policy: &P, station: &Station) -> Option<Head>
-    ensures { Leading (ahead_answer (content station.now.table) (meaning policy.now (content station.now.table))) (board station.now.lines) (task_count (content station.now.table)) result }
+    ensures { Leading (ahead_answer (content station.now.table) (P.meaning policy.now (content station.now.table))) (board station.now.lines) (task_count (content station.now.table)) result }
 {
     let Some(first) = station.first_waiting() else {
         return None;
@@ -60,7 +60,7 @@ fn leader<P: Policy>(policy: &P, station: &Station) -> Option<Head>
 
 // Its task.
 fn leading_task<P: Policy>(policy: &P, station: &Station) -> Option<usize>
-    ensures { Leads (ahead_answer (content station.now.table) (meaning policy.now (content station.now.table))) (board station.now.lines) (task_count (content station.now.table)) result }
+    ensures { Leads (ahead_answer (content station.now.table) (P.meaning policy.now (content station.now.table))) (board station.now.lines) (task_count (content station.now.table)) result }
 {
     match leader(policy, station) {
         Some(head) => Some(head.task),
@@ -70,7 +70,7 @@ fn leading_task<P: Policy>(policy: &P, station: &Station) -> Option<usize>
 
 // The task whose first job is to run.
 fn pick<P: Policy>(policy: &P, station: &Station) -> Option<usize>
-    ensures { Picked (content station.now.table).mode station.now.stage (ahead_answer (content station.now.table) (meaning policy.now (content station.now.table))) (board station.now.lines) (task_count (content station.now.table)) result }
+    ensures { Picked (content station.now.table).mode station.now.stage (ahead_answer (content station.now.table) (P.meaning policy.now (content station.now.table))) (board station.now.lines) (task_count (content station.now.table)) result }
 {
     match (station.table().mode(), station.stage()) {
         (Mode::NonPreemptive, Stage::Begun { task }) => Some(task),
@@ -91,7 +91,7 @@ impl<P: Policy> Run<P> {
     pub fn new(policy: P, table: &Table) -> Run<P>
         ensures policy { result.policy ≡ policy }
         ensures table { result.station.table ≡ table.now }
-        ensures answered { Answered (meaning policy (content table.now)) result.station [] }
+        ensures answered { Answered (P.meaning policy (content table.now)) result.station [] }
     {
         Run {
             policy,
@@ -105,7 +105,7 @@ impl<P: Policy> Run<P> {
         ensures policy { self.new.policy ≡ self.old.policy }
         ensures table { self.new.station.table ≡ self.old.station.table }
         ensures refused { OnErr result (self.new ≡ self.old) }
-        ensures answered { Answers (meaning self.old.policy (content self.old.station.table)) self.old.station self.new.station (release task) (release_told result) }
+        ensures answered { Answers (P.meaning self.old.policy (content self.old.station.table)) self.old.station self.new.station (release task) (release_told result) }
     {
         self.station.release(task)
     }
@@ -146,7 +146,7 @@ impl<P: Policy> Run<P> {
         ensures policy { self.new.policy ≡ self.old.policy }
         ensures table { self.new.station.table ≡ self.old.station.table }
         ensures refused { OnErr result (self.new ≡ self.old) }
-        ensures answered { Answers (meaning self.old.policy (content self.old.station.table)) self.old.station self.new.station (tick done) (tick_told result) }
+        ensures answered { Answers (P.meaning self.old.policy (content self.old.station.table)) self.old.station self.new.station (tick done) (tick_told result) }
     {
         if self.station.is_over() {
             return Err(Refusal::TimeOver);
@@ -157,14 +157,14 @@ impl<P: Policy> Run<P> {
 
     /// The counts of this task; refused where the table has no such task.
     pub fn look(&self, task: usize) -> Result<Counts, Refusal>
-        ensures { Answers (meaning self.now.policy (content self.now.station.table)) self.now.station self.now.station (look task) (look_told result) }
+        ensures { Answers (P.meaning self.now.policy (content self.now.station.table)) self.now.station self.now.station (look task) (look_told result) }
     {
         self.station.look(task)
     }
 
     /// The release of the oldest waiting job of this task, if one waits; refused where the table has no such task.
     pub fn oldest(&self, task: usize) -> Result<Option<u32>, Refusal>
-        ensures { Oldest (meaning self.now.policy (content self.now.station.table)) self.now.station task result }
+        ensures { Oldest (P.meaning self.now.policy (content self.now.station.table)) self.now.station task result }
     {
         self.station.oldest(task)
     }

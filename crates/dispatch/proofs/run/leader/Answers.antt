@@ -10,8 +10,8 @@ use Rattle.dispatch.proofs.Ahead.{leading_more}
 use Rattle.dispatch.proofs.Stations.{in_room}
 use Rattle.dispatch.proofs.run.leader.Goals as goal
 
-pub overflow-add-next : goal.overflow-add-next
-overflow-add-next g c = let few : c.in-Some.first.task < 24 = in_room c.args.station.now c.in-Some.first.task c.in-Some.ensures.0 in search rules
+pub overflow_add-next : goal.overflow_add-next
+overflow_add-next g c = let few : c.in-Some.first.task < 24 = in_room c.args.station.now c.in-Some.first.task c.in-Some.ensures.0 in search rules
 
 -- the first that waits leads all up to its task
 pub loop-task-init : goal.loop-task-init

@@ -10,14 +10,14 @@ use Rattle.dispatch.proofs.Stations.{boards_plain, answered_next}
 use Rattle.dispatch.proofs.Ties.{Next, tick_over, tick_moves}
 use Rattle.dispatch.proofs.run.Run.tick.Goals as goal
 
-pub returns-then-is-over : goal.returns-then-is-over
-returns-then-is-over g c = record {
+pub returns-then-is_over : goal.returns-then-is_over
+returns-then-is_over g c = record {
   policy = refl;
   table = refl;
   refused = refl;
   answered = λ calls rep.
       let d = c.args.self.now.station in
-      let n = tick_over (content d.table) (g.P.Policy.meaning c.args.self.now.policy (content d.table)) calls d.time (board d.lines) d.stage rep c.args.done (leb-true 4000000000 d.time (sym c.if-is-over.ensures)) in
+      let n = tick_over (content d.table) (g.P.Policy.meaning c.args.self.now.policy (content d.table)) calls d.time (board d.lines) d.stage rep c.args.done (leb-true 4000000000 d.time (sym c.if-is_over.ensures)) in
       (n.stands, n.tells);
 }
 
@@ -35,7 +35,7 @@ returns g c = record {
       let met = g.met.P.Policy in
       let checked = table_checked d.table in
       let laws = lawful s (g.P.Policy.meaning p s) (met.total p s checked) (met.transitive p s checked) (met.earlier p s checked) (met.range p s checked) (met.rule p s checked) in
-      let early : d.time < 4000000000 = leb-false 4000000000 d.time (sym c.if-is-over.ensures) in
+      let early : d.time < 4000000000 = leb-false 4000000000 d.time (sym c.if-is_over.ensures) in
       let n = tick_moves s o calls d.time (board d.lines) d.stage rep checked laws c.args.done early (λ j h. boards_plain d.lines j) c.pick-chosen.result c.pick-chosen.ensures (board e.lines) e.stage c.advance.result c.advance.ensures.moved in
       answered_next d e o calls (tick c.args.done) (ticked_told c.advance.result) c.advance.ensures.table (subst (λ t. Next s o calls (tick c.args.done) t (board e.lines) e.stage (ticked_told c.advance.result)) (sym c.advance.ensures.time) n);
 }

@@ -13,7 +13,7 @@ returns c = record {
       let d = c.args.self.now in
       let f = c.args.front in
       let at : f.release ≡ p.release = front_release (board d.lines f.task).waiting p ps f.release w c.requires.first in
-      let long : c.saturating-sub-response.result ≡ d.time - p.release = omega arith in
+      let long : c.saturating_sub-response.result ≡ d.time - p.release = omega arith in
       moves_from d c.put.new.self c.turn.new.self.stage (board c.turn.new.self.lines) f true p ps (line_summary c.finish.result) _ c.requires w c.put.ensures
       (c.finish.ensures p ps (ap (λ (u : Summary). u.waiting) c.requires.line ∙ w))
       (λ k. ap (λ ls. board ls k) c.turn.ensures.lines)

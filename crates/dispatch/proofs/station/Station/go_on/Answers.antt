@@ -10,8 +10,8 @@ use Rattle.dispatch.specs.declared.replies.Ticked.TheVariants as ticked
 use Rattle.dispatch.proofs.Movings.{front_release, moves_from}
 use Rattle.dispatch.proofs.station.Station.go_on.Goals as goal
 
-pub go-on-requires : goal.go-on-requires
-go-on-requires c =
+pub go_on-requires : goal.go_on-requires
+go_on-requires c =
     let d = c.args.self.now in
     let f = c.args.front in
     let r = task_ranges (content d.table) (table_checked d.table) f.task c.requires.front.inside in
@@ -26,8 +26,8 @@ returns c = record {
       let d = c.args.self.now in
       let f = c.args.front in
       let at : f.release ≡ p.release = front_release (board d.lines f.task).waiting p ps f.release w c.requires.front.first in
-      moves_from d c.put.new.self c.turn.new.self.stage (board c.turn.new.self.lines) f false p ps (line_summary c.go-on.result) _ c.requires.front w c.put.ensures
-      (c.go-on.ensures p ps (sporadic f.known) d.time (ap (λ (u : Summary). u.waiting) c.requires.front.line ∙ w))
+      moves_from d c.put.new.self c.turn.new.self.stage (board c.turn.new.self.lines) f false p ps (line_summary c.go_on.result) _ c.requires.front w c.put.ensures
+      (c.go_on.ensures p ps (sporadic f.known) d.time (ap (λ (u : Summary). u.waiting) c.requires.front.line ∙ w))
       (λ k. ap (λ ls. board ls k) c.turn.ensures.lines)
       c.turn.ensures.stage
       (ap (λ r. ticked.Ran f.task r) at);

@@ -2,8 +2,8 @@ use Rattle.std.proofs.Common.{◌<◌, length, refl, arith, rules}
 use Rattle.dispatch.proofs.Stations.{in_room, written_here, written_others}
 use Rattle.dispatch.proofs.station.Station.put.Goals as goal
 
-pub offset-bounds-self-task : goal.offset-bounds-self-task
-offset-bounds-self-task c = let few = in_room c.args.self.now c.args.task c.requires in search rules
+pub offset_bounds-self-task : goal.offset_bounds-self-task
+offset_bounds-self-task c = let few = in_room c.args.self.now c.args.task c.requires in search rules
 
 pub listed : goal.listed
 listed c = omega (arith, in_room c.args.self.now c.args.task c.requires, c.args.self.now.room)

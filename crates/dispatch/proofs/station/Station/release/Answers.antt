@@ -12,37 +12,37 @@ use Rattle.dispatch.proofs.Stations.{answered_put}
 use Rattle.dispatch.proofs.Ties.{release_unknown, release_soon, release_full, release_free}
 use Rattle.dispatch.proofs.station.Station.release.Goals as goal
 
-pub returns-in-default : goal.returns-in-default
-returns-in-default c = record {
+pub returns-in_default : goal.returns-in_default
+returns-in_default c = record {
   table = refl;
   refused = refl;
   answered = λ o law calls rep.
       let d = c.args.self.now in
-      let n = release_unknown (content d.table) o calls d.time (board d.lines) d.stage rep c.args.task c.in-default.ensures in
+      let n = release_unknown (content d.table) o calls d.time (board d.lines) d.stage rep c.args.task c.in_default.ensures in
       (n.stands, n.tells);
 }
 
-pub returns-then-is-soon : goal.returns-then-is-soon
-returns-then-is-soon c = record {
+pub returns-then-is_soon : goal.returns-then-is_soon
+returns-then-is_soon c = record {
   table = refl;
   refused = refl;
   answered = λ o law calls rep.
       let d = c.args.self.now in
       let found = c.in-Some.ensures in
-      let soon : ltb d.time (board d.lines c.args.task).free ≡ true = ap (λ (u : Summary). ltb d.time u.free) (sym c.line-line.ensures) ∙ sym c.if-is-soon.ensures in
+      let soon : ltb d.time (board d.lines c.args.task).free ≡ true = ap (λ (u : Summary). ltb d.time u.free) (sym c.line-line.ensures) ∙ sym c.if-is_soon.ensures in
       let n = release_soon (content d.table) o calls d.time (board d.lines) d.stage rep (table_checked d.table) law c.args.task found.0 soon in
       (n.stands, n.tells);
 }
 
-pub returns-then-is-full : goal.returns-then-is-full
-returns-then-is-full c = record {
+pub returns-then-is_full : goal.returns-then-is_full
+returns-then-is_full c = record {
   table = refl;
   refused = refl;
   answered = λ o law calls rep.
       let d = c.args.self.now in
       let found = c.in-Some.ensures in
-      let soon : ltb d.time (board d.lines c.args.task).free ≡ false = ap (λ (u : Summary). ltb d.time u.free) (sym c.line-line.ensures) ∙ sym c.if-is-soon.ensures in
-      let full : leb 8 (length (board d.lines c.args.task).waiting) ≡ true = ap (λ (u : Summary). leb 8 (length u.waiting)) (sym c.line-line.ensures) ∙ ap (leb 8) (line_long c.line-line.result) ∙ sym c.if-is-full.ensures in
+      let soon : ltb d.time (board d.lines c.args.task).free ≡ false = ap (λ (u : Summary). ltb d.time u.free) (sym c.line-line.ensures) ∙ sym c.if-is_soon.ensures in
+      let full : leb 8 (length (board d.lines c.args.task).waiting) ≡ true = ap (λ (u : Summary). leb 8 (length u.waiting)) (sym c.line-line.ensures) ∙ ap (leb 8) (line_long c.line-line.result) ∙ sym c.if-is_full.ensures in
       let n = release_full (content d.table) o calls d.time (board d.lines) d.stage rep (table_checked d.table) law c.args.task found.0 soon full in
       (n.stands, n.tells);
 }
@@ -54,8 +54,8 @@ push-requires c =
     let r = task_ranges (content d.table) (table_checked d.table) c.args.task found.0 in
     let same = ap (λ (t : Sporadic). t.period) found.1 in
     record {
-      room = leb-false 8 c.line-line.result.len (sym c.if-is-full.ensures);
-      free = ltb-false d.time c.line-line.result.free (sym c.if-is-soon.ensures);
+      room = leb-false 8 c.line-line.result.len (sym c.if-is_full.ensures);
+      free = ltb-false d.time c.line-line.result.free (sym c.if-is_soon.ensures);
       clock = d.clock;
       low = omega (arith, same, r.period_low);
       high = omega (arith, same, r.period_high);
@@ -71,8 +71,8 @@ returns c = record {
       let j = c.args.task in
       let s = content d.table in
       let found = c.in-Some.ensures in
-      let soon : ltb d.time (board d.lines j).free ≡ false = ap (λ (u : Summary). ltb d.time u.free) (sym c.line-line.ensures) ∙ sym c.if-is-soon.ensures in
-      let full : leb 8 (length (board d.lines j).waiting) ≡ false = ap (λ (u : Summary). leb 8 (length u.waiting)) (sym c.line-line.ensures) ∙ ap (leb 8) (line_long c.line-line.result) ∙ sym c.if-is-full.ensures in
+      let soon : ltb d.time (board d.lines j).free ≡ false = ap (λ (u : Summary). ltb d.time u.free) (sym c.line-line.ensures) ∙ sym c.if-is_soon.ensures in
+      let full : leb 8 (length (board d.lines j).waiting) ≡ false = ap (λ (u : Summary). leb 8 (length u.waiting)) (sym c.line-line.ensures) ∙ ap (leb 8) (line_long c.line-line.result) ∙ sym c.if-is_full.ensures in
       let here : board e.lines j ≡ joined (task_at s j) d.time (board d.lines j) = c.put.ensures.here ∙ c.push.ensures ∙ ap (λ t. joined t d.time (line_summary c.line-line.result)) found.1 ∙ ap (λ u. joined (task_at s j) d.time u) c.line-line.ensures in
       answered_put d e j (line_summary c.push.result) o calls _ c.put.ensures (release_free s o calls d.time (board d.lines) d.stage rep (table_checked d.table) law j found.0 (board e.lines) here c.put.ensures.others soon full);
 }
