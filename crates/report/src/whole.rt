@@ -17,7 +17,7 @@ pub fn report<P: Policy>(
     rows: &mut [Row],
     out: &mut [u8],
 ) -> Result<usize, Refusal>
-    ensures { Reported (content table.now) (meaning policy.now (content table.now)) rows.old rows.new out.old out.new result }
+    ensures { Reported (content table.now) (P.meaning policy.now (content table.now)) rows.old rows.new out.old out.new result }
 {
     if rows.len() < table.count() {
         return Err(Refusal::FewRows);

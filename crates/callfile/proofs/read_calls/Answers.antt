@@ -2,7 +2,7 @@ use Rattle.std.proofs.Common.{◌+◌, take, sym, ◌∙◌, subst, take_all}
 use Rattle.callfile.specs.Said.{calls_said}
 use Rattle.callfile.proofs.Laying.{Laid, same_laid, laid_none, laid_nothing, laid_more, laid_full}
 use Rattle.callfile.proofs.read_calls.Goals as goal
-use Rattle.callfile.proofs.read_calls.Goals.{in-Some+then-count-steps, in-Some+else-count-steps, in-default}
+use Rattle.callfile.proofs.read_calls.Goals.{in-Some+then-count-steps, in-Some+else-count-steps, in_default}
 
 pub loop-byte-init : goal.loop-byte-init
 loop-byte-init c = laid_none c.args.steps.now
@@ -14,18 +14,18 @@ loop-byte-preserved c =
     let before = c.args.steps.now in
     let steps = c.loop-byte.steps in
     let count = c.loop-byte.count in
-    let later = c.match-call-of.steps in
-    let next = c.match-call-of.count in
+    let later = c.match-call_of.steps in
+    let next = c.match-call_of.count in
     let here = c.loop-byte-test.true in
     let inv = c.loop-byte.invariant in
     let kept = same_laid (calls_said (take (i + 1) text)) before steps later count next in
-    elim c.match-call-of.branch [
+    elim c.match-call_of.branch [
       | in-Some+then-count-steps w ↦
           let call = w.in-Some.call in
           let more = laid_more text i before steps count call here (sym c.call_of.ensures ∙ w.in-Some.is) inv w.if-count-steps.true in
           same_laid (calls_said (take (i + 1) text)) before _ later (count + 1) next w.steps-is w.count-is more
       | in-Some+else-count-steps w ↦ kept w.steps-is w.count-is (laid_full text i before steps count w.in-Some.call here (sym c.call_of.ensures ∙ w.in-Some.is) inv w.if-count-steps.false)
-      | in-default w ↦ kept w.steps-is w.count-is (laid_nothing text i before steps count here (sym c.call_of.ensures ∙ w.in-default.is) inv)
+      | in_default w ↦ kept w.steps-is w.count-is (laid_nothing text i before steps count here (sym c.call_of.ensures ∙ w.in_default.is) inv)
     ]
 
 pub returns : goal.returns

@@ -5,12 +5,12 @@ use Rattle.priority.proofs.Fitting.{filled_admitted}
 use Rattle.priority.proofs.InVain.{unfilled}
 use Rattle.priority.proofs.assigning.assign_priorities.Goals as goal
 
-pub returns-in-err-place : goal.returns-in-err-place
-returns-in-err-place c =
-    let p = err_from_is_err_and c.from-residual.result c.from-residual.ensures.1 in
+pub returns-in_err-place : goal.returns-in_err-place
+returns-in_err-place c =
+    let p = err_from_is_err_and c.from_residual.result c.from_residual.ensures.1 in
     let found = c.in-Some.ensures in
     let L = c.in-Some.field-0 in
-    let done = c.in-err-place.ensures L found in
+    let done = c.in_err-place.ensures L found in
     let at = done.4 in
     rw (p.1, p.2) (refl, inr (L, done.0, done.1, found.0, found.1, unfilled (content c.args.table.now) L done.0 found.1 done.2 done.3 at.0 at.1 at.2 at.3))
 
@@ -18,6 +18,6 @@ pub returns : goal.returns
 returns c =
     let found = c.in-Some.ensures in
     let L = c.in-Some.field-0 in
-    let u = content c.in-ok-place.field-0 in
-    let done = c.in-ok-place.ensures L found in
+    let u = content c.in_ok-place.field-0 in
+    let done = c.in_ok-place.ensures L found in
     (L, found.0, found.1, record { ordering = done.0; filled = done.1; admitted = filled_admitted u L done.0.ranks done.1 })

@@ -11,36 +11,36 @@ use Rattle.priority.proofs.Exchanging.{exchange_ordering}
 use Rattle.priority.proofs.Placing.{ordering_more, none_filled}
 use Rattle.priority.proofs.assigning.fill_ranks.Goals as goal
 
-pub exchange-ranks-order-requires : goal.exchange-ranks-order-requires
-exchange-ranks-order-requires c =
+pub exchange_ranks-order-requires : goal.exchange_ranks-order-requires
+exchange_ranks-order-requires c =
     let some = (count_ranges (content c.args.table.now) (table_checked c.args.table.now)).0 in
-    record { first-low = omega arith; first-high = some; second-low = omega arith; second-high = some }
+    record { first_low = omega arith; first_high = some; second_low = omega arith; second_high = some }
 
 pub loop-left-init : goal.loop-left-init
 loop-left-init c =
     let t = c.args.table.now in
     let s = content t in
-    let u = content c.exchange-ranks-order.result in
+    let u = content c.exchange_ranks-order.result in
     let some = (count_ranges s (table_checked t)).0 in
-    let ordering : OrderingOf s u = subst (λ v. OrderingOf s v) (sym c.exchange-ranks-order.ensures) (exchange_ordering 1 1 s (table_checked t) (omega arith) some (omega arith) some) in
+    let ordering : OrderingOf s u = subst (λ v. OrderingOf s v) (sym c.exchange_ranks-order.ensures) (exchange_ordering 1 1 s (table_checked t) (omega arith) some (omega arith) some) in
     let all : task_count u ≡ c.count-left.result = omega (arith, (ordering_alike s u ordering).count, c.count-left.ensures) in
     (ordering, λ L busy. subst (λ k. Filled u L k) all (none_filled u L ordering.ranks))
 
-pub overflow-cast-rank : goal.overflow-cast-rank
-overflow-cast-rank c =
+pub overflow_cast-rank : goal.overflow_cast-rank
+overflow_cast-rank c =
     let few : c.loop-left.left ≤ 24 = omega (arith, c.loop-left.auto.left, c.count-left.ensures, few_tasks c.args.table.now) in
     search rules
 
-pub take-rank-requires : goal.take-rank-requires
-take-rank-requires c =
+pub take_rank-requires : goal.take_rank-requires
+take_rank-requires c =
     let s = content c.args.table.now in
     record {
       low = omega arith;
       high = omega (arith, c.loop-left.auto.left, c.loop-left-test.true, c.count-left.ensures, (ordering_alike s (content c.loop-left.order) c.loop-left.invariant.0).count);
     }
 
-pub returns-in-default : goal.returns-in-default
-returns-in-default c = λ L busy.
+pub returns-in_default : goal.returns-in_default
+returns-in_default c = λ L busy.
     let s = content c.args.table.now in
     let t = content c.loop-left.order in
     let k = c.loop-left.left - 1 + 1 in
@@ -53,7 +53,7 @@ returns-in-default c = λ L busy.
         t,
         c.loop-left.invariant.0,
         subst (λ q. Filled t L q) same (c.loop-left.invariant.1 L busy),
-        c.in-default.ensures.taken L (busy.0, same_busy s t L (ordering_alike s t c.loop-left.invariant.0) busy.1),
+        c.in_default.ensures.taken L (busy.0, same_busy s t L (ordering_alike s t c.loop-left.invariant.0) busy.1),
       ),
     )
 

@@ -8,42 +8,42 @@ use Rattle.priority.specs.Ordering.{rank_in}
 use Rattle.priority.proofs.Placing.{put_fits, put_unfit, put_busy, put_known}
 use Rattle.priority.proofs.assigning.try_rank.Goals as goal
 
-pub exchange-ranks-next-requires : goal.exchange-ranks-next-requires
-exchange-ranks-next-requires c =
+pub exchange_ranks-next-requires : goal.exchange_ranks-next-requires
+exchange_ranks-next-requires c =
     let t = c.args.order.now in
     let here = task_ranges (content t) (table_checked t) c.args.task c.requires.known in
     record {
-      first-low = omega (arith, c.rank-of-present.ensures, here.rank_low);
-      first-high = omega (arith, c.rank-of-present.ensures, here.rank_high);
-      second-low = c.requires.low;
-      second-high = c.requires.high;
+      first_low = omega (arith, c.rank_of-present.ensures, here.rank_low);
+      first_high = omega (arith, c.rank_of-present.ensures, here.rank_high);
+      second_low = c.requires.low;
+      second_high = c.requires.high;
     }
 
-pub returns-then-in-time : goal.returns-then-in-time
-returns-then-in-time c =
+pub returns-then-in_time : goal.returns-then-in_time
+returns-then-in_time c =
     let t = c.args.order.now in
     let s = content t in
-    let u = content c.exchange-ranks-next.result in
+    let u = content c.exchange_ranks-next.result in
     let i = c.args.task in
-    let left : rank_in s i ≤ c.args.rank = omega (arith, c.rank-of-present.ensures, c.if-present-rank.false) in
-    let is : u ≡ with_exchanged (rank_in s i) c.args.rank s = c.exchange-ranks-next.ensures ∙ ap (λ x. with_exchanged x c.args.rank s) c.rank-of-present.ensures in
+    let left : rank_in s i ≤ c.args.rank = omega (arith, c.rank_of-present.ensures, c.if-present-rank.false) in
+    let is : u ≡ with_exchanged (rank_in s i) c.args.rank s = c.exchange_ranks-next.ensures ∙ ap (λ x. with_exchanged x c.args.rank s) c.rank_of-present.ensures in
     record {
       put = (left, is);
       fits = λ L busy.
           put_fits s (table_checked t) c.args.rank i c.requires.known left c.requires.low c.requires.high u is L
-          ((c.in-time.ensures L (busy.0, put_busy s (table_checked t) c.args.rank i c.requires.known left c.requires.low c.requires.high u is L busy.1) (put_known s (table_checked t) c.args.rank i c.requires.known left c.requires.low c.requires.high u is)).0 c.if-in-time.true);
+          ((c.in_time.ensures L (busy.0, put_busy s (table_checked t) c.args.rank i c.requires.known left c.requires.low c.requires.high u is L busy.1) (put_known s (table_checked t) c.args.rank i c.requires.known left c.requires.low c.requires.high u is)).0 c.if-in_time.true);
     }
 
-pub returns-else-in-time : goal.returns-else-in-time
-returns-else-in-time c =
+pub returns-else-in_time : goal.returns-else-in_time
+returns-else-in_time c =
     let t = c.args.order.now in
     let s = content t in
-    let u = content c.exchange-ranks-next.result in
+    let u = content c.exchange_ranks-next.result in
     let i = c.args.task in
-    let is : u ≡ with_exchanged (rank_in s i) c.args.rank s = c.exchange-ranks-next.ensures ∙ ap (λ x. with_exchanged x c.args.rank s) c.rank-of-present.ensures in
+    let is : u ≡ with_exchanged (rank_in s i) c.args.rank s = c.exchange_ranks-next.ensures ∙ ap (λ x. with_exchanged x c.args.rank s) c.rank_of-present.ensures in
     record {
       put = tt;
       fits = λ L busy left.
           put_unfit s (table_checked t) c.args.rank i c.requires.known left c.requires.low c.requires.high u is L
-          (λ all. both_ways c.in-time.result c.if-in-time.false ((c.in-time.ensures L (busy.0, put_busy s (table_checked t) c.args.rank i c.requires.known left c.requires.low c.requires.high u is L busy.1) (put_known s (table_checked t) c.args.rank i c.requires.known left c.requires.low c.requires.high u is)).1 all));
+          (λ all. both_ways c.in_time.result c.if-in_time.false ((c.in_time.ensures L (busy.0, put_busy s (table_checked t) c.args.rank i c.requires.known left c.requires.low c.requires.high u is L busy.1) (put_known s (table_checked t) c.args.rank i c.requires.known left c.requires.low c.requires.high u is)).1 all));
     }

@@ -4,4 +4,4 @@ use Rattle.report.proofs.lines.put_report.Goals as goal
 
 pub returns : goal.returns
 unfolding report_text
-returns c = then (then (then c.put-header-stretch-at.ensures c.put-stretch-rows-at.ensures) c.put-rows-verdict-at.ensures) (reworded 10 (verdict_word c.args.judgement.now.verdict) c.verdict_word.ensures c.put-word.ensures)
+returns c = then (then (then c.put_header-stretch_at.ensures c.put_stretch-rows_at.ensures) c.put_rows-verdict_at.ensures) (reworded 10 (verdict_word c.args.judgement.now.verdict) c.verdict_word.ensures c.put_word.ensures)

@@ -10,8 +10,8 @@ pub loop-number-init : goal.loop-number-init
 unfolding task_lines
 loop-number-init c = nothing _ _
 
-pub overflow-cast-number : goal.overflow-cast-number
-overflow-cast-number c =
+pub overflow_cast-number : goal.overflow_cast-number
+overflow_cast-number c =
     let t = c.args.table.now in
     omega (arith, few (content t) c.tasks-task-items.result.now c.tasks-task-items.ensures (table_checked t), c.loop-number-test.true)
 
@@ -20,7 +20,7 @@ bounds-rows-number c = omega (arith, as_many (content c.args.table.now) c.tasks-
 
 pub loop-number-preserved : goal.loop-number-preserved
 loop-number-preserved c =
-    next_line (content c.args.table.now) c.tasks-task-items.result.now c.tasks-task-items.ensures c.args.rows.now c.loop-number.number c.task-item.result c.loop-number-test.true c.task-item.is c.loop-number.invariant c.put-row-next.ensures
+    next_line (content c.args.table.now) c.tasks-task-items.result.now c.tasks-task-items.ensures c.args.rows.now c.loop-number.number c.task-item.result c.loop-number-test.true c.task-item.is c.loop-number.invariant c.put_row-next.ensures
 
 pub returns : goal.returns
 returns c = last_line (content c.args.table.now) c.tasks-task-items.result.now c.tasks-task-items.ensures c.args.rows.now c.loop-number.number c.loop-number.auto.number-end c.loop-number-test.false c.loop-number.invariant

@@ -2,4 +2,4 @@ use Rattle.report.proofs.Pastes.{then}
 use Rattle.report.proofs.lines.put_stretch.Goals as goal
 
 pub returns : goal.returns
-returns c = then c.put-word-number-at.ensures c.put-figure.ensures
+returns c = then c.put_word-number_at.ensures c.put_figure.ensures

@@ -3,8 +3,8 @@ use Rattle.std.proofs.lemmas.Fmt.{length-decimal-le}
 use Rattle.report.proofs.Figures.{shorter, one_digit}
 use Rattle.report.proofs.place.digit_count.Goals as goal
 
-pub overflow-add-count : goal.overflow-add-count
-overflow-add-count c = omega (arith, length-decimal-le 20 c.args.number (lit< tt) (omega arith) (omega arith))
+pub overflow_add-count : goal.overflow_add-count
+overflow_add-count c = omega (arith, length-decimal-le 20 c.args.number (lit< tt) (omega arith) (omega arith))
 
 pub loop-rest-preserved : goal.loop-rest-preserved
 loop-rest-preserved c =

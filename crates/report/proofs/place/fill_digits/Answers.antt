@@ -19,4 +19,4 @@ loop-place-preserved c =
     let front : take (k + 1) text ≡ decimal l.rest = ap (λ n. take n text) (sym up) ∙ l.invariant.2 c.loop-place-test.true in
     let behind : drop (k + 1) l.out ≡ drop (k + 1) text = ap (λ n. drop n l.out) (sym up) ∙ l.invariant.0 ∙ ap (λ n. drop n text) up in
     let d = digit text k l.rest inside (omega (arith, l.invariant.1)) front in
-    (digit_set text l.out k _ (l.auto.out ∙ c.requires) inside (d.here ∙ sym c.last-digit.ensures) behind, omega (arith, l.invariant.1), d.front)
+    (digit_set text l.out k _ (l.auto.out ∙ c.requires) inside (d.here ∙ sym c.last_digit.ensures) behind, omega (arith, l.invariant.1), d.front)

@@ -5,7 +5,7 @@ use Rattle.report.proofs.refused.place_len.Goals as goal
 
 pub returns-in-Some : goal.returns-in-Some
 returns-in-Some c =
-    let digits = c.digit-count.ensures in
+    let digits = c.digit_count.ensures in
     record {
       value = digits ∙ ap (λ p. length (place_word p)) (sym c.in-Some.is);
       few = omega (arith, digits, length-decimal-le 20 c.in-Some.place (lit< tt) (omega arith) (omega arith));

@@ -7,5 +7,5 @@ use Rattle.report.proofs.refused.put_line.Goals as goal
 pub returns : goal.returns
 returns c =
     let e = c.args.refusal in
-    then c.put-word-number-at.ensures
-    (then (reworded 32 (decimal (refusal_number e)) (ap decimal (c.from.ensures ∙ c.number.ensures)) c.put-figure-place-at.ensures) (reworded 10 (place_word (refusal_place e)) (ap place_word c.place.ensures) c.put-place.ensures))
+    then c.put_word-number_at.ensures
+    (then (reworded 32 (decimal (refusal_number e)) (ap decimal (c.from.ensures ∙ c.number.ensures)) c.put_figure-place_at.ensures) (reworded 10 (place_word (refusal_place e)) (ap place_word c.place.ensures) c.put_place.ensures))

@@ -14,4 +14,4 @@ returns g c =
     let met = g.met.P.Policy in
     let checked = table_checked t in
     let law : Lawful s o = lawful s o (met.total p s checked) (met.transitive p s checked) (met.earlier p s checked) (met.range p s checked) (met.rule p s checked) in
-    printed s o c.args.rows.now c.judge.new.rows c.in-ok-judgement.judgement checked law c.in-ok-judgement.ensures.judged c.if-out-lt-OUTPUT-BYTES.false c.put-report.ensures
+    printed s o c.args.rows.now c.judge.new.rows c.in_ok-judgement.judgement checked law c.in_ok-judgement.ensures.judged c.if-out-lt-OUTPUT_BYTES.false c.put_report.ensures
