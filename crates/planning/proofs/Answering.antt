@@ -16,6 +16,8 @@ use Rattle.report.specs.RefusalText.{refusal_text, refusal_bytes}
 use Rattle.report.specs.Reported.{Printed, RefusedFor}
 use Rattle.report.specs.Text.{report_text}
 use Rattle.report.proofs.Pastes.{put_fits}
+use Rattle.report.proofs.Prints.{printed_short}
+use Rattle.policy.specs.Shipped.{chosen_lawful}
 use Rattle.policy.specs.Chosen.{chosen_order}
 use Rattle.planning.specs.Planned.{Planned, PlannedFrom}
 use Rattle.planning.specs.Answered.{Told, Says, short_output, no_busy_period, reported, AnswerFrom, Answered}
@@ -35,11 +37,13 @@ module _ (input : List ℕ) (fit : (i : ℕ) → get_or input i 0 < 256) (rows r
       go (Err why) e refused = no_value (sym refused.0)
       go (Ok s) e printed =
           let text = report_text s printed.judgement rows' in
+          let checked = (file_read input fit s e).0 in
+          let few : len ≤ 916 = printed_short checked (chosen_lawful s checked) printed in
           record {
             text = text;
             answer = subst (λ r. AnswerFrom r (length out) text) (sym e) (reported printed.room (record { rows = rows'; judgement = printed.judgement; judged = judged_again long printed.judged; said = refl }));
-            short = omega (arith, printed.long, printed.short);
-            put = put_fits out 0 text out' len (omega (arith, printed.room, printed.long, printed.short)) (printed.text ∙ ap (λ n. text ++ drop n out) (printed.long ∙ sym (zero-add (length text)))) printed.long;
+            short = omega (arith, printed.long, few);
+            put = put_fits out 0 text out' len (omega (arith, printed.room, printed.long, few)) (printed.text ∙ ap (λ n. text ++ drop n out) (printed.long ∙ sym (zero-add (length text)))) printed.long;
           }
 
   refusal_answered : (mid out' : List ℕ) (why : Refusal) (len : ℕ) → Planned input rows rows' out mid (Err why) → Put mid 0 (refusal_text why) out' len → length (refusal_text why) ≤ refusal_bytes → Answered input out out' len

@@ -43,10 +43,10 @@ pub(crate) fn draw<P: Policy + Drop>(
     job: usize,
     marks: &mut [u8],
 )
-    requires course { CourseOf (content table.now) (meaning policy (content table.now)) course.now }
+    requires course { CourseOf (content table.now) (P.meaning policy (content table.now)) course.now }
     requires job { job < task_count (content table.now) }
     requires few { length marks.old ≤ 200 }
-    ensures { marks.new ≡ timeline (content table.now) (meaning policy (content table.now)) course.now.task course.now.offset job (length marks.old) }
+    ensures { marks.new ≡ timeline (content table.now) (P.meaning policy (content table.now)) course.now.task course.now.offset job (length marks.old) }
 {
     let mut run = Run::new(policy, table);
     let end = marks.len() as u32;

@@ -19,11 +19,11 @@ fn judge_and_replay<P: Policy + Drop>(
     rows: &mut [Row],
     steps: &mut [Step],
 ) -> Result<Judgement, Refusal>
-    ensures judged { Judged (content table.now) (meaning policy (content table.now)) rows.old rows.new result }
-    ensures replayed { Replayed (content table.now) (meaning policy (content table.now)) steps.old steps.new result }
-    ensures never_longer { OnOk result (RowsBound (content table.now) (meaning policy (content table.now)) rows.new) }
-    ensures attained { IfOk result (λ j. RowsAttained (content table.now) (meaning policy (content table.now)) rows.new j.verdict) }
-    ensures late_exactly { IfOk result (λ j. VerdictExact (content table.now) (meaning policy (content table.now)) j.verdict) }
+    ensures judged { Judged (content table.now) (P.meaning policy (content table.now)) rows.old rows.new result }
+    ensures replayed { Replayed (content table.now) (P.meaning policy (content table.now)) steps.old steps.new result }
+    ensures never_longer { OnOk result (RowsBound (content table.now) (P.meaning policy (content table.now)) rows.new) }
+    ensures attained { IfOk result (λ j. RowsAttained (content table.now) (P.meaning policy (content table.now)) rows.new j.verdict) }
+    ensures late_exactly { IfOk result (λ j. VerdictExact (content table.now) (P.meaning policy (content table.now)) j.verdict) }
 {
     let judgement = judge(&policy, table, rows)?;
     replay(policy, table, steps);
@@ -39,13 +39,13 @@ pub fn judged_replay<P: Policy + Drop>(
     rows: &mut [Row],
     steps: &mut [Step],
 ) -> Result<Judgement, Refusal>
-    ensures judged { Judged (content table.now) (meaning policy (content table.now)) rows.old rows.new result }
-    ensures replayed { Replayed (content table.now) (meaning policy (content table.now)) steps.old steps.new result }
+    ensures judged { Judged (content table.now) (P.meaning policy (content table.now)) rows.old rows.new result }
+    ensures replayed { Replayed (content table.now) (P.meaning policy (content table.now)) steps.old steps.new result }
     ensures within { OnOk result (WithinRows rows.new (answers_in steps.new)) }
     ensures on_time { IfOk result (λ j. OnTime (content table.now) j.verdict (answers_in steps.new)) }
-    ensures never_longer { OnOk result (RowsBound (content table.now) (meaning policy (content table.now)) rows.new) }
-    ensures attained { IfOk result (λ j. RowsAttained (content table.now) (meaning policy (content table.now)) rows.new j.verdict) }
-    ensures late_exactly { IfOk result (λ j. VerdictExact (content table.now) (meaning policy (content table.now)) j.verdict) }
+    ensures never_longer { OnOk result (RowsBound (content table.now) (P.meaning policy (content table.now)) rows.new) }
+    ensures attained { IfOk result (λ j. RowsAttained (content table.now) (P.meaning policy (content table.now)) rows.new j.verdict) }
+    ensures late_exactly { IfOk result (λ j. VerdictExact (content table.now) (P.meaning policy (content table.now)) j.verdict) }
 {
     judge_and_replay(policy, table, rows, steps)
 }

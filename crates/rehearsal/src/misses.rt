@@ -27,7 +27,7 @@ fn seek_along<P: Policy + Drop>(
     task: usize,
     row: Row,
 ) -> Result<Option<Miss>, Refusal>
-    ensures { Sought (content table.now) (meaning policy (content table.now)) task row result }
+    ensures { Sought (content table.now) (P.meaning policy (content table.now)) task row result }
 {
     let Some(course) = Course::new(&policy, table, task, row.offset)? else {
         return Ok(None);
@@ -47,8 +47,8 @@ pub fn first_miss<P: Policy + Drop>(
     task: usize,
     row: Row,
 ) -> Result<Option<Miss>, Refusal>
-    ensures sought { Sought (content table.now) (meaning policy (content table.now)) task row result }
-    ensures late { LateSeen (content table.now) (meaning policy (content table.now)) task row result }
+    ensures sought { Sought (content table.now) (P.meaning policy (content table.now)) task row result }
+    ensures late { LateSeen (content table.now) (P.meaning policy (content table.now)) task row result }
 {
     seek_along(policy, table, task, row)
 }

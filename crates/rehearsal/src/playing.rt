@@ -51,7 +51,7 @@ fn latest(later: Option<u32>, earlier: Option<u32>) -> Option<u32>
 fn release_if<P: Policy>(run: &mut Run<P>, told: bool, task: usize)
     ensures policy { run.new.policy ≡ run.old.policy }
     ensures table { run.new.station.table ≡ run.old.station.table }
-    ensures answered { (calls : List Call) → Answered (meaning run.old.policy (content run.old.station.table)) run.old.station calls → Answered (meaning run.old.policy (content run.old.station.table)) run.new.station (calls ++ (if told then release task ∷ [] else [])) }
+    ensures answered { (calls : List Call) → Answered (P.meaning run.old.policy (content run.old.station.table)) run.old.station calls → Answered (P.meaning run.old.policy (content run.old.station.table)) run.new.station (calls ++ (if told then release task ∷ [] else [])) }
 {
     if told {
         let _ = run.release(task);
@@ -61,10 +61,10 @@ fn release_if<P: Policy>(run: &mut Run<P>, told: bool, task: usize)
 // All releases of one tick.
 fn release_told<P: Policy>(run: &mut Run<P>, table: &Table, course: &Course, time: u32)
     requires table { table.now ≡ run.old.station.table }
-    requires course { CourseOf (content table.now) (meaning run.old.policy (content table.now)) course.now }
+    requires course { CourseOf (content table.now) (P.meaning run.old.policy (content table.now)) course.now }
     ensures policy { run.new.policy ≡ run.old.policy }
     ensures table { run.new.station.table ≡ run.old.station.table }
-    ensures answered { (calls : List Call) → Answered (meaning run.old.policy (content table.now)) run.old.station calls → Answered (meaning run.old.policy (content table.now)) run.new.station (calls ++ releases_below (content table.now) (meaning run.old.policy (content table.now)) course.now.task course.now.offset time (task_count (content table.now))) }
+    ensures answered { (calls : List Call) → Answered (P.meaning run.old.policy (content table.now)) run.old.station calls → Answered (P.meaning run.old.policy (content table.now)) run.new.station (calls ++ releases_below (content table.now) (P.meaning run.old.policy (content table.now)) course.now.task course.now.offset time (task_count (content table.now))) }
 {
     for task in 0..table.count() {
         let told = course.releases(table, task, time);
@@ -80,10 +80,10 @@ pub(crate) fn play_tick<P: Policy>(
     time: u32,
 ) -> Result<Ticked, Refusal>
     requires table { table.now ≡ run.old.station.table }
-    requires course { CourseOf (content table.now) (meaning run.old.policy (content table.now)) course.now }
+    requires course { CourseOf (content table.now) (P.meaning run.old.policy (content table.now)) course.now }
     ensures policy { run.new.policy ≡ run.old.policy }
     ensures table { run.new.station.table ≡ run.old.station.table }
-    ensures answered { (calls : List Call) → Answered (meaning run.old.policy (content table.now)) run.old.station calls → OneTick (content table.now) (meaning run.old.policy (content table.now)) course.now time calls run.new.station (tick_told result) }
+    ensures answered { (calls : List Call) → Answered (P.meaning run.old.policy (content table.now)) run.old.station calls → OneTick (content table.now) (P.meaning run.old.policy (content table.now)) course.now time calls run.new.station (tick_told result) }
 {
     release_told(run, table, course, time);
     run.tick(false)
@@ -96,8 +96,8 @@ pub(crate) fn play<P: Policy + Drop>(
     course: &Course,
     end: u32,
 ) -> Option<u32>
-    requires course { CourseOf (content table.now) (meaning policy (content table.now)) course.now }
-    ensures { result ≡ seen course.now.task (course.now.lead.ticks + course.now.offset) (answers (content table.now) (meaning policy (content table.now)) start (course_until (content table.now) (meaning policy (content table.now)) course.now.task course.now.offset end)) }
+    requires course { CourseOf (content table.now) (P.meaning policy (content table.now)) course.now }
+    ensures { result ≡ seen course.now.task (course.now.lead.ticks + course.now.offset) (answers (content table.now) (P.meaning policy (content table.now)) start (course_until (content table.now) (P.meaning policy (content table.now)) course.now.task course.now.offset end)) }
 {
     let mut run = Run::new(policy, table);
     let mut seen = None;

@@ -28,7 +28,7 @@ fn is_due(table: &Table, task: usize, release: u32, time: u32) -> bool
 // The release of the oldest waiting job of a task, where its deadline is reached.
 fn due_release<P: Policy>(run: &Run<P>, table: &Table, task: usize, time: u32) -> Option<u32>
     requires { table.now ≡ run.now.station.table }
-    ensures { (calls : List Call) → Answered (meaning run.now.policy (content table.now)) run.now.station calls → task < task_count (content table.now) → result ≡ due_of (content table.now) (play (content table.now) (meaning run.now.policy (content table.now)) start calls) time task }
+    ensures { (calls : List Call) → Answered (P.meaning run.now.policy (content table.now)) run.now.station calls → task < task_count (content table.now) → result ≡ due_of (content table.now) (play (content table.now) (P.meaning run.now.policy (content table.now)) start calls) time task }
 {
     let Ok(Some(release)) = run.oldest(task) else {
         return None;
@@ -43,7 +43,7 @@ fn due_release<P: Policy>(run: &Run<P>, table: &Table, task: usize, time: u32) -
 // The lowest-numbered task that has one, with this job.
 fn first_due<P: Policy>(run: &Run<P>, table: &Table, time: u32) -> Option<Miss>
     requires { table.now ≡ run.now.station.table }
-    ensures { (calls : List Call) → Answered (meaning run.now.policy (content table.now)) run.now.station calls → DueFirst (content table.now) (play (content table.now) (meaning run.now.policy (content table.now)) start calls) time result }
+    ensures { (calls : List Call) → Answered (P.meaning run.now.policy (content table.now)) run.now.station calls → DueFirst (content table.now) (play (content table.now) (P.meaning run.now.policy (content table.now)) start calls) time result }
 {
     for task in 0..table.count() {
         if let Some(release) = due_release(run, table, task, time) {
@@ -64,9 +64,9 @@ pub(crate) fn seek<P: Policy + Drop>(
     course: &Course,
     end: u32,
 ) -> Option<Miss>
-    requires course { CourseOf (content table.now) (meaning policy (content table.now)) course.now }
+    requires course { CourseOf (content table.now) (P.meaning policy (content table.now)) course.now }
     requires end { end ≤ 4000000000 }
-    ensures { MissedFirst (content table.now) (meaning policy (content table.now)) course.now.task course.now.offset end result }
+    ensures { MissedFirst (content table.now) (P.meaning policy (content table.now)) course.now.task course.now.offset end result }
 {
     let mut run = Run::new(policy, table);
     for time in 0..end {

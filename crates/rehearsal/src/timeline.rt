@@ -20,7 +20,7 @@ pub fn draw_worst_course<P: Policy + Drop>(
     job: usize,
     marks: &mut [u8],
 ) -> Result<bool, Refusal>
-    ensures { Drawn (content table.now) (meaning policy (content table.now)) task offset job marks.old marks.new result }
+    ensures { Drawn (content table.now) (P.meaning policy (content table.now)) task offset job marks.old marks.new result }
 {
     let told = Course::new(&policy, table, task, offset)?;
     if job >= table.count() {

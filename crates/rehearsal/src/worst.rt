@@ -18,7 +18,7 @@ fn play_row<P: Policy + Drop>(
     task: usize,
     row: Row,
 ) -> Result<Option<u32>, Refusal>
-    ensures { Rehearsed (content table.now) (meaning policy (content table.now)) task row result }
+    ensures { Rehearsed (content table.now) (P.meaning policy (content table.now)) task row result }
 {
     let Some(course) = Course::new(&policy, table, task, row.offset)? else {
         return Ok(None);
@@ -38,9 +38,9 @@ pub fn play_worst_course<P: Policy + Drop>(
     task: usize,
     row: Row,
 ) -> Result<Option<u32>, Refusal>
-    ensures exact { Rehearsed (content table.now) (meaning policy (content table.now)) task row result }
-    ensures promised { AsPromised (content table.now) (meaning policy (content table.now)) task row result }
-    ensures guaranteed { HoldsInRuns (content table.now) (meaning policy (content table.now)) }
+    ensures exact { Rehearsed (content table.now) (P.meaning policy (content table.now)) task row result }
+    ensures promised { AsPromised (content table.now) (P.meaning policy (content table.now)) task row result }
+    ensures guaranteed { HoldsInRuns (content table.now) (P.meaning policy (content table.now)) }
 {
     play_row(policy, table, task, row)
 }

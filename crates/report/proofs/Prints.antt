@@ -8,7 +8,7 @@ use Rattle.analysis.specs.Judged.{Given, row_at}
 use Rattle.analysis.specs.declared.rows.Row.{Row}
 use Rattle.analysis.specs.declared.rows.Judgement.{Judgement}
 use Rattle.report.specs.Pasted.{Appended}
-use Rattle.report.specs.Reported.{Printed, output_bytes}
+use Rattle.report.specs.Reported.{Printed, output_bytes, longest_report}
 use Rattle.report.specs.Text.{report_text}
 use Rattle.report.proofs.Bounded.{worst_below}
 use Rattle.report.proofs.Lengths.{Short, text_length}
@@ -23,10 +23,15 @@ module _ (s : TaskSet) (o : Order) (rows rows' : List Row) (j : Judgement) (chec
         deadline = omega (arith, row.1, (task_ranges s checked i h).deadline_high);
       }
 
+  text_short : length (report_text s j rows') ≤ longest_report
+  text_short = text_length s j rows' checked (omega (arith, judged.short)) short_row
+
   pub printed : {out out' : List ℕ} {len : ℕ} → output_bytes ≤ length out → Appended out 0 (report_text s j rows') out' len → Printed s o rows rows' out out' len
   printed {out} {out'} {len} room put =
       let text = report_text s j rows' in
-      let few : length text ≤ 916 = text_length s j rows' checked (omega (arith, judged.short)) short_row in
-      let done = put.done (omega arith) in
+      let done = put.done (omega (arith, text_short)) in
       let end : 0 + length text ≡ len = sym done.1 in
       record { judgement = j; judged = judged; room = room; text = done.0 ∙ ap (λ n. text ++ drop n out) end; long = omega (arith, done.1) }
+
+pub printed_short : {s : TaskSet} {o : Order} {rows rows' : List Row} {out out' : List ℕ} {len : ℕ} → Checked s → Lawful s o → Printed s o rows rows' out out' len → len ≤ longest_report
+printed_short {s} {o} {rows} {rows'} {out} {out'} {len} checked law done = omega (arith, done.long, text_short s o rows rows' done.judgement checked law done.judged)

@@ -1,6 +1,7 @@
 //! The report of a table under any policy.
+ghost use Rattle.std.specs.Prelude.{◌≤◌, IfOk};
 ghost use Rattle.table.specs.Model.{content};
-ghost use Rattle.report.specs.Reported.{Reported};
+ghost use Rattle.report.specs.Reported.{Reported, longest_report};
 
 use crate::lines::put_report;
 use analysis::{Row, judge};
@@ -17,7 +18,8 @@ pub fn report<P: Policy>(
     rows: &mut [Row],
     out: &mut [u8],
 ) -> Result<usize, Refusal>
-    ensures { Reported (content table.now) (P.meaning policy.now (content table.now)) rows.old rows.new out.old out.new result }
+    ensures reported { Reported (content table.now) (P.meaning policy.now (content table.now)) rows.old rows.new out.old out.new result }
+    ensures short { IfOk result (λ len. len ≤ longest_report) }
 {
     if rows.len() < table.count() {
         return Err(Refusal::FewRows);

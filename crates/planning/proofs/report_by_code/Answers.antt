@@ -10,4 +10,4 @@ returns-in-Bands c =
     let s = content c.args.table.now in
     let bands = ap (λ k. bands_order k (fixed_order s) (deadline_order s)) (c.new.ensures.number ∙ c.band.ensures) in
     let chosen = ap (λ p. order_of p s) (sym c.in-Bands.is ∙ c.policy.ensures) in
-    subst (λ o. Reported s o c.args.rows.now c.report-in-Bands.new.rows c.args.out.now c.report-in-Bands.new.out c.report-in-Bands.result) (bands ∙ chosen) c.report-in-Bands.ensures
+    subst (λ o. Reported s o c.args.rows.now c.report-in-Bands.new.rows c.args.out.now c.report-in-Bands.new.out c.report-in-Bands.result) (bands ∙ chosen) c.report-in-Bands.ensures.reported

@@ -19,8 +19,8 @@ loop-time-init g c =
     let course = c.args.course.now in
     (refl, refl, drawn_none s (m run.policy s) course.task course.offset c.args.job run.station c.args.marks.now (subst (λ q. Answered (m q s) run.station _) (sym c.new-run.ensures.policy) c.new-run.ensures.answered))
 
-pub play-tick-ticked-requires : goal.play-tick-ticked-requires
-play-tick-ticked-requires g c =
+pub play_tick-ticked-requires : goal.play_tick-ticked-requires
+play_tick-ticked-requires g c =
     let s = content c.args.table.now in
     let m = g.P.Policy.meaning in
     let inv = c.loop-time.invariant in
@@ -38,18 +38,18 @@ loop-time-preserved g c =
     let course = c.args.course.now in
     let job = c.args.job in
     let d = c.loop-time.run.station in
-    let e = c.play-tick-ticked.new.run.station in
+    let e = c.play_tick-ticked.new.run.station in
     let t = c.loop-time.time in
     let calls = course_until s o course.task course.offset t in
-    let given = tick_told c.play-tick-ticked.result in
-    let ticked = subst (λ q. Answered (m q s) d calls → OneTick s (m q s) course t calls e given) inv.0 (c.play-tick-ticked.ensures.answered calls) inv.2.played in
+    let given = tick_told c.play_tick-ticked.result in
+    let ticked = subst (λ q. Answered (m q s) d calls → OneTick s (m q s) course t calls e given) inv.0 (c.play_tick-ticked.ensures.answered calls) inv.2.played in
     let at_order = subst (λ q. CourseOf s (m q s) course) (sym c.new-run.ensures.policy) c.requires.course in
     let releases_is : c.releases-releases.result ≡ releases_at s o course.task course.offset job t = c.releases-releases.ensures ∙ guarded job (task_count s) _ _ c.requires.job (at_order.told job t) in
     let here : t < length c.loop-time.marks = omega (arith, c.loop-time-test.true, c.loop-time.auto.marks) in (
-      c.play-tick-ticked.ensures.policy ∙ inv.0,
-      c.play-tick-ticked.ensures.table ∙ inv.1,
-      drawn_more s o course.task course.offset job t d e c.loop-time.marks c.mark-of.result here inv.2 ticked.played
-          (c.mark-of.ensures ∙ ap (λ b. mark b c.runs-now.result) releases_is ∙ ap (mark (releases_at s o course.task course.offset job t)) (c.runs-now.ensures ∙ ap (runs job) ticked.tells)),
+      c.play_tick-ticked.ensures.policy ∙ inv.0,
+      c.play_tick-ticked.ensures.table ∙ inv.1,
+      drawn_more s o course.task course.offset job t d e c.loop-time.marks c.mark_of.result here inv.2 ticked.played
+          (c.mark_of.ensures ∙ ap (λ b. mark b c.runs_now.result) releases_is ∙ ap (mark (releases_at s o course.task course.offset job t)) (c.runs_now.ensures ∙ ap (runs job) ticked.tells)),
     )
 
 pub returns : goal.returns

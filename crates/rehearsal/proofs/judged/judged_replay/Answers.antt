@@ -12,8 +12,8 @@ returns g c =
     let met = g.met.P.Policy in
     let checked = table_checked c.args.table.now in
     let laws = lawful s o (met.total p s checked) (met.transitive p s checked) (met.earlier p s checked) (met.range p s checked) (met.rule p s checked) in
-    let told = c.judge-and-replay.ensures in
-    let kept = kept_within s o checked laws c.args.rows.now c.judge-and-replay.new.rows c.args.steps.now c.judge-and-replay.new.steps c.judge-and-replay.result told.judged told.replayed in
+    let told = c.judge_and_replay.ensures in
+    let kept = kept_within s o checked laws c.args.rows.now c.judge_and_replay.new.rows c.args.steps.now c.judge_and_replay.new.steps c.judge_and_replay.result told.judged told.replayed in
     record {
       judged = told.judged;
       replayed = told.replayed;

@@ -12,5 +12,5 @@ returns g c =
     let met = g.met.P.Policy in
     let checked = table_checked c.args.table.now in
     let laws = lawful s o (met.total p s checked) (met.transitive p s checked) (met.earlier p s checked) (met.range p s checked) (met.rule p s checked) in
-    let sought = c.seek-along.ensures in
-    record { sought = sought; late = late_seen s o checked laws c.args.task c.args.row c.seek-along.result sought }
+    let sought = c.seek_along.ensures in
+    record { sought = sought; late = late_seen s o checked laws c.args.task c.args.row c.seek_along.result sought }

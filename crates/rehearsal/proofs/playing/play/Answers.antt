@@ -18,8 +18,8 @@ loop-time-init g c =
     let course = c.args.course.now in
     (refl, refl, shown_none s (m run.policy s) course.task course.offset (course.lead.ticks + course.offset) run.station (subst (λ q. Answered (m q s) run.station _) (sym c.new-run.ensures.policy) c.new-run.ensures.answered))
 
-pub play-tick-ticked-requires : goal.play-tick-ticked-requires
-play-tick-ticked-requires g c =
+pub play_tick-ticked-requires : goal.play_tick-ticked-requires
+play_tick-ticked-requires g c =
     let s = content c.args.table.now in
     let m = g.P.Policy.meaning in
     let inv = c.loop-time.invariant in
@@ -36,16 +36,16 @@ loop-time-preserved g c =
     let inv = c.loop-time.invariant in
     let course = c.args.course.now in
     let d = c.loop-time.run.station in
-    let e = c.play-tick-ticked.new.run.station in
+    let e = c.play_tick-ticked.new.run.station in
     let t = c.loop-time.time in
     let calls = course_until s o course.task course.offset t in
-    let ticked = subst (λ q. Answered (m q s) d calls → OneTick s (m q s) course t calls e (tick_told c.play-tick-ticked.result)) inv.0 (c.play-tick-ticked.ensures.answered calls) inv.2.played in
+    let ticked = subst (λ q. Answered (m q s) d calls → OneTick s (m q s) course t calls e (tick_told c.play_tick-ticked.result)) inv.0 (c.play_tick-ticked.ensures.answered calls) inv.2.played in
     let arrival = course.lead.ticks + course.offset in
-    let given = tick_told c.play-tick-ticked.result in
-    let tells = c.response-told-told.ensures ∙ ap (λ k. told_by k c.arrival.result given) c.task.ensures ∙ ap (λ z. told_by course.task z given) c.arrival.ensures ∙ ap (told_by course.task arrival) ticked.tells in (
-      c.play-tick-ticked.ensures.policy ∙ inv.0,
-      c.play-tick-ticked.ensures.table ∙ inv.1,
-      shown_more s o course.task course.offset (course.lead.ticks + course.offset) t d e c.loop-time.seen c.response-told-told.result c.latest-seen.result inv.2 ticked.played tells c.latest-seen.ensures,
+    let given = tick_told c.play_tick-ticked.result in
+    let tells = c.response_told-told.ensures ∙ ap (λ k. told_by k c.arrival.result given) c.task.ensures ∙ ap (λ z. told_by course.task z given) c.arrival.ensures ∙ ap (told_by course.task arrival) ticked.tells in (
+      c.play_tick-ticked.ensures.policy ∙ inv.0,
+      c.play_tick-ticked.ensures.table ∙ inv.1,
+      shown_more s o course.task course.offset (course.lead.ticks + course.offset) t d e c.loop-time.seen c.response_told-told.result c.latest-seen.result inv.2 ticked.played tells c.latest-seen.ensures,
     )
 
 pub returns : goal.returns

@@ -20,16 +20,16 @@ loop-task-preserved g c =
     let o = m p s in
     let inv = c.loop-task.invariant in
     let d = c.loop-task.run.station in
-    let e = c.release-if.new.run.station in
+    let e = c.release_if.new.run.station in
     let n = c.loop-task.task in
     let told = c.releases-told.result in
     let same : m c.loop-task.run.policy (content d.table) ≡ o = ap (λ q. m q (content d.table)) inv.0 ∙ ap (λ u. m p (content u)) (inv.1 ∙ sym c.requires.table) in
     let inside : n < task_count s = omega (arith, c.count-task-end.ensures) in
     let is = c.releases-told.ensures ∙ guarded n (task_count s) _ _ inside (c.requires.course.told n c.args.time) in (
-      c.release-if.ensures.policy ∙ inv.0,
-      c.release-if.ensures.table ∙ inv.1,
+      c.release_if.ensures.policy ∙ inv.0,
+      c.release_if.ensures.table ∙ inv.1,
       released_more s o c.args.course.now.task c.args.course.now.offset c.args.time c.args.run.now.station d e n told is inv.2
-          (λ cs. subst (λ q. Answered q d cs → Answered q e (cs ++ cond told (release n ∷ []) [])) same (c.release-if.ensures.answered cs)),
+          (λ cs. subst (λ q. Answered q d cs → Answered q e (cs ++ cond told (release n ∷ []) [])) same (c.release_if.ensures.answered cs)),
     )
 
 pub returns : goal.returns

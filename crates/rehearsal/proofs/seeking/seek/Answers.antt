@@ -32,13 +32,13 @@ returns-in-Some g c =
     let inv = c.loop-time.invariant in
     let course = c.args.course.now in
     let d = c.loop-time.run.station in
-    let e = c.play-tick.new.run.station in
+    let e = c.play_tick.new.run.station in
     let t = c.loop-time.time in
     let calls = course_until s o course.task course.offset t in
-    let ticked = subst (λ q. Answered (m q s) d calls → OneTick s (m q s) course t calls e (tick_told c.play-tick.result)) inv.0 (c.play-tick.ensures.answered calls) inv.2.played in
+    let ticked = subst (λ q. Answered (m q s) d calls → OneTick s (m q s) course t calls e (tick_told c.play_tick.result)) inv.0 (c.play_tick.ensures.answered calls) inv.2.played in
     let next = course_until s o course.task course.offset (t + 1) in
     let played = answered_next s o course.task course.offset t e ticked.played in
-    let due = subst (λ q. Answered (m q s) e next → DueFirst s (play s (m q s) start next) (t + 1) c.first-due.result) (c.play-tick.ensures.policy ∙ inv.0) (c.first-due.ensures next) played in
+    let due = subst (λ q. Answered (m q s) e next → DueFirst s (play s (m q s) start next) (t + 1) c.first_due.result) (c.play_tick.ensures.policy ∙ inv.0) (c.first_due.ensures next) played in
     let early : t < last_time = omega (arith, c.requires.end) in
     let inside : t < c.args.end = omega arith in
     subst (λ q. FirstMiss s (m q s) course.task course.offset c.args.end c.in-Some.miss) c.new-run.ensures.policy
@@ -56,17 +56,17 @@ loop-time-preserved g c =
     let inv = c.loop-time.invariant in
     let course = c.args.course.now in
     let d = c.loop-time.run.station in
-    let e = c.play-tick.new.run.station in
+    let e = c.play_tick.new.run.station in
     let t = c.loop-time.time in
     let calls = course_until s o course.task course.offset t in
-    let ticked = subst (λ q. Answered (m q s) d calls → OneTick s (m q s) course t calls e (tick_told c.play-tick.result)) inv.0 (c.play-tick.ensures.answered calls) inv.2.played in
+    let ticked = subst (λ q. Answered (m q s) d calls → OneTick s (m q s) course t calls e (tick_told c.play_tick.result)) inv.0 (c.play_tick.ensures.answered calls) inv.2.played in
     let next = course_until s o course.task course.offset (t + 1) in
     let played = answered_next s o course.task course.offset t e ticked.played in
-    let due = subst (λ q. Answered (m q s) e next → DueFirst s (play s (m q s) start next) (t + 1) c.first-due.result) (c.play-tick.ensures.policy ∙ inv.0) (c.first-due.ensures next) played in
+    let due = subst (λ q. Answered (m q s) e next → DueFirst s (play s (m q s) start next) (t + 1) c.first_due.result) (c.play_tick.ensures.policy ∙ inv.0) (c.first_due.ensures next) played in
     let early : t < last_time = omega (arith, c.requires.end) in (
-      c.play-tick.ensures.policy ∙ inv.0,
-      c.play-tick.ensures.table ∙ inv.1,
-      clean_more s o checked laws course.task course.offset t early inv.2.none e played (subst (λ r. DueFirst s (play s o start next) (t + 1) r) c.in-default.is due),
+      c.play_tick.ensures.policy ∙ inv.0,
+      c.play_tick.ensures.table ∙ inv.1,
+      clean_more s o checked laws course.task course.offset t early inv.2.none e played (subst (λ r. DueFirst s (play s o start next) (t + 1) r) c.in_default.is due),
     )
 
 pub returns : goal.returns

@@ -12,5 +12,5 @@ returns g c =
     let met = g.met.P.Policy in
     let checked = table_checked c.args.table.now in
     let laws = lawful s o (met.total p s checked) (met.transitive p s checked) (met.earlier p s checked) (met.range p s checked) (met.rule p s checked) in
-    let exact = c.play-row.ensures in
-    record { exact = exact; promised = as_promised s o checked laws c.args.task c.args.row c.play-row.result exact; guaranteed = holds_in_runs s o checked laws }
+    let exact = c.play_row.ensures in
+    record { exact = exact; promised = as_promised s o checked laws c.args.task c.args.row c.play_row.result exact; guaranteed = holds_in_runs s o checked laws }

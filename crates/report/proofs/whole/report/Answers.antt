@@ -2,7 +2,7 @@ use Rattle.table.specs.Model.{content}
 use Rattle.table.proofs.Tables.{table_checked}
 use Rattle.policy.specs.Laws.{Lawful}
 use Rattle.policy.proofs.Lawfulness.{lawful}
-use Rattle.report.proofs.Prints.{printed}
+use Rattle.report.proofs.Prints.{printed, printed_short}
 use Rattle.report.proofs.whole.report.Goals as goal
 
 pub returns : goal.returns
@@ -14,4 +14,8 @@ returns g c =
     let met = g.met.P.Policy in
     let checked = table_checked t in
     let law : Lawful s o = lawful s o (met.total p s checked) (met.transitive p s checked) (met.earlier p s checked) (met.range p s checked) (met.rule p s checked) in
-    printed s o c.args.rows.now c.judge.new.rows c.in_ok-judgement.judgement checked law c.in_ok-judgement.ensures.judged c.if-out-lt-OUTPUT_BYTES.false c.put_report.ensures
+    let done = printed s o c.args.rows.now c.judge.new.rows c.in_ok-judgement.judgement checked law c.in_ok-judgement.ensures.judged c.if-out-lt-OUTPUT_BYTES.false c.put_report.ensures in
+    record {
+      reported = done;
+      short = printed_short checked law done;
+    }
