@@ -19,7 +19,7 @@ use tablefile::read_table;
 fn make<P: Policy>(run: &mut Run<P>, call: Call) -> Reply
     ensures policy { run.new.policy ≡ run.old.policy }
     ensures table { run.new.station.table ≡ run.old.station.table }
-    ensures answered { Told (meaning run.old.policy (content run.old.station.table)) run.old.station run.new.station (call_of call) result }
+    ensures answered { Told (P.meaning run.old.policy (content run.old.station.table)) run.old.station run.new.station (call_of call) result }
 {
     match call.kind {
         0 => released(run.release(call.task)),
@@ -30,7 +30,7 @@ fn make<P: Policy>(run: &mut Run<P>, call: Call) -> Reply
 
 // Makes the calls of these steps on a fresh run, in their order.
 fn play<P: Policy + Drop>(policy: P, table: &Table, steps: &mut [Step])
-    ensures { Played (content table.now) (meaning policy (content table.now)) steps.old steps.new }
+    ensures { Played (content table.now) (P.meaning policy (content table.now)) steps.old steps.new }
 {
     let mut run = Run::new(policy, table);
     for at in 0..steps.len() {
