@@ -1,5 +1,5 @@
 -- Bytes put at the start of a buffer leave what lies behind them.
-use Rattle.std.proofs.Common.{◌≡◌, ℕ, ◌+◌, ◌≤◌, List, ◌++◌, length, drop, ap, ◌∙◌, arith, drop_at}
+use Rattle.std.proofs.Common.{◌≡◌, ℕ, ◌+◌, ◌≤◌, List, length, drop, ap, ◌∙◌, arith, drop_at}
 use Rattle.report.specs.Pasted.{Put}
 
 pub behind : (before bytes after : List ℕ) (answer : ℕ) → length bytes ≤ length before → Put before 0 bytes after answer → (answer ≡ length bytes) × (drop answer after ≡ drop answer before)

@@ -1,5 +1,5 @@
 -- A station in which the first job of a task has run.
-use Rattle.std.proofs.Common.{◌≡◌, ℕ, ◌-◌, Bool, List, ◌∷◌, Some, Option, sym, ap, ◌∙◌, subst}
+use Rattle.std.proofs.Common.{◌≡◌, ℕ, Bool, List, ◌∷◌, Some, Option, sym, ap, ◌∙◌, subst}
 use Rattle.table.specs.Content.{sporadic}
 use Rattle.table.specs.Model.{content}
 use Rattle.table.specs.Rules.{task_at}

@@ -1,5 +1,5 @@
 -- From what a plan left and answered to the planner's whole answer.
-use Rattle.std.proofs.Common.{◌≡◌, ℕ, ◌+◌, ◌<◌, ◌≤◌, ◌⊎◌, List, ◌++◌, length, get_or, drop, Ok, Err, Result, sym, refl, ap, ◌∙◌, subst, inl, inr, zero-add, arith}
+use Rattle.std.proofs.Common.{◌≡◌, ℕ, ◌<◌, ◌≤◌, List, ◌++◌, length, get_or, drop, Ok, Err, Result, sym, refl, ap, ◌∙◌, subst, inl, inr, zero-add, arith}
 use Rattle.table.specs.Rules.{TaskSet, task_count}
 use Rattle.table.specs.declared.refusal.Refusal.{Refusal}
 use Rattle.table.proofs.Ranges.{count_ranges}
@@ -13,12 +13,11 @@ use Rattle.tablefile.proofs.Files.{file_read}
 use Rattle.tablefile.proofs.Inversion.{no_value}
 use Rattle.report.specs.Pasted.{Put}
 use Rattle.report.specs.RefusalText.{refusal_text, refusal_bytes}
-use Rattle.report.specs.Reported.{Printed, RefusedFor}
+use Rattle.report.specs.Reported.{RefusedFor}
 use Rattle.report.specs.Text.{report_text}
 use Rattle.report.proofs.Pastes.{put_fits}
 use Rattle.report.proofs.Prints.{printed_short}
 use Rattle.policy.specs.Shipped.{chosen_lawful}
-use Rattle.policy.specs.Chosen.{chosen_order}
 use Rattle.planning.specs.Planned.{Planned, PlannedFrom}
 use Rattle.planning.specs.Answered.{Told, Says, short_output, no_busy_period, reported, AnswerFrom, Answered}
 

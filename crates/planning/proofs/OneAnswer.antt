@@ -1,10 +1,10 @@
 -- Two answers to the same bytes are the same text, as the analysis leaves no choice.
-use Rattle.std.proofs.Common.{◌≡◌, ℕ, zero, suc, ◌<◌, ◌≤◌, List, ◌++◌, Ok, Err, sym, refl, ap, ◌∙◌, subst, arith}
+use Rattle.std.proofs.Common.{◌≡◌, ℕ, zero, suc, ◌<◌, List, ◌++◌, Ok, Err, sym, refl, ap, ◌∙◌, subst, arith}
 use Rattle.table.specs.Rules.{TaskSet, task_count, task_at}
 use Rattle.policy.specs.Order.{Order}
 use Rattle.theory.specs.BusyPeriod.{BusyPeriod}
 use Rattle.theory.specs.Worst.{Worst}
-use Rattle.analysis.specs.Judged.{Given, RowOf, VerdictOf, row_at}
+use Rattle.analysis.specs.Judged.{RowOf, VerdictOf, row_at}
 use Rattle.analysis.specs.declared.rows.Row.{Row}
 use Rattle.analysis.specs.declared.rows.Verdict.{Verdict}
 use Rattle.analysis.specs.declared.rows.Verdict.TheVariants.{Admitted, Late}

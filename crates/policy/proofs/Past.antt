@@ -1,5 +1,5 @@
 -- Tasks of any number, past the last one of a table too.
-use Rattle.std.proofs.Common.{◌≡◌, ℕ, ◌<◌, ◌≤◌, sym, ap, ⊎_elim, arith}
+use Rattle.std.proofs.Common.{◌≡◌, ℕ, ◌≤◌, sym, ap, ⊎_elim, arith}
 use Rattle.std.proofs.lemmas.Bool.Decides.{leb_tells}
 use lib.ListN.{get_or-eq_default}
 use Rattle.table.specs.Sporadic.{Sporadic}

@@ -1,10 +1,10 @@
 -- What the two calls of a policy answer, from its order: no and Never outside the table, no outside the clock.
-use Rattle.std.specs.Prelude.{ℕ, Bool, true, false, cond, not, ◌&&◌, ℤ, pos, negsuc, ◌==◌, int_le, nat_lt}
+use Rattle.std.specs.Prelude.{ℕ, Bool, cond, not, ◌&&◌, ℤ, pos, negsuc, ◌==◌, int_le, nat_lt}
 use Rattle.table.specs.Rules.{TaskSet, task_count}
 use Rattle.policy.specs.Order.{Order}
 use Rattle.policy.specs.declared.job.Job.{Job}
 use Rattle.policy.specs.declared.job.Reach.{Reach}
-use Rattle.policy.specs.declared.job.Reach.TheVariants.{Always, Never, Within}
+use Rattle.policy.specs.declared.job.Reach.TheVariants.{Never, Within}
 
 -- the ticks that calls may speak of: -1 to 4,000,000,000
 abbrev pub on_clock : ℤ → Bool

@@ -1,6 +1,6 @@
 -- The reach rule of bands, from the rules of the two orders.
-use Rattle.std.specs.Prelude.{◌≡◌, ℕ, ◌<◌, Bool, true, false, cond, ℤ, nat_lt, refl}
-use Rattle.table.specs.Rules.{TaskSet, task_count}
+use Rattle.std.specs.Prelude.{◌≡◌, ℕ, Bool, true, false, cond, ℤ, nat_lt, refl}
+use Rattle.table.specs.Rules.{TaskSet}
 use Rattle.policy.specs.Laws.{ReachRule}
 use Rattle.policy.specs.Order.{Order, job, reaches}
 use Rattle.policy.specs.Orders.{bands_order}

@@ -1,11 +1,9 @@
 -- The laws of an order by release plus a constant of the task.
-use Rattle.std.specs.Prelude.{◌≡◌, ℕ, ◌<◌, ◌≤◌, Bool, true, false, cond, not, ℤ, pos, negsuc, ◌+ℤ◌, ◌-ℤ◌, ◌≤ℤ◌, ◌<ℤ◌, ◌≢◌, int_le, nat_lt}
+use Rattle.std.specs.Prelude.{◌≡◌, ℕ, ◌<◌, ◌≤◌, true, cond, not, ℤ, pos, negsuc, ◌+ℤ◌, ◌≤ℤ◌, ◌<ℤ◌, ◌≢◌, int_le, nat_lt}
 use Rattle.std.proofs.Common.{ap, arith}
-use Rattle.std.specs.Int.Signed.{lt_z}
 use Rattle.std.proofs.lemmas.Int.{ints}
 use Rattle.std.proofs.lemmas.Bool.Decides.{nat_tests}
 use Rattle.table.specs.Rules.{TaskSet, task_count}
-use Rattle.policy.specs.declared.job.Job.{Job}
 use Rattle.policy.specs.Laws.{Total, Transitive, EarlierFirst, ReachRange, ReachRule}
 use Rattle.policy.specs.Orders.{key_ahead, key_reach, keyed_order}
 use Rattle.policy.specs.Different.{differ}

@@ -1,5 +1,5 @@
 -- The laws of an order on the jobs of a task set. Releases may be any whole numbers, negative ones too.
-use Rattle.std.specs.Prelude.{◌≡◌, ℕ, ◌<◌, Bool, true, not, ℤ, pos, negsuc, ◌≤ℤ◌, ◌<ℤ◌, ◌≢◌}
+use Rattle.std.specs.Prelude.{◌≡◌, ℕ, ◌<◌, true, not, ℤ, pos, negsuc, ◌≤ℤ◌, ◌<ℤ◌, ◌≢◌}
 use Rattle.table.specs.Rules.{TaskSet, task_count}
 use Rattle.policy.specs.Order.{Order, job, reaches}
 use Rattle.policy.specs.declared.job.Job.{Job}

@@ -2,8 +2,6 @@
 use Rattle.std.specs.Prelude.{ℕ, Bool, true, false, cond, ℤ, pos, ◌+ℤ◌, ◌-ℤ◌, ◌==◌, int_le, int_lt, nat_lt}
 use Rattle.table.specs.Rules.{TaskSet, task_at}
 use Rattle.policy.specs.Order.{Order}
-use Rattle.policy.specs.declared.job.Job.{Job}
-use Rattle.policy.specs.declared.job.Reach.{Reach}
 use Rattle.policy.specs.declared.job.Reach.TheVariants.{Always, Never, Within}
 
 -- Fixed: the lower rank is always ahead

@@ -1,5 +1,5 @@
 -- What is seen along a list of calls, and along a worst course.
-use Rattle.std.proofs.Common.{◌≡◌, ℕ, zero, suc, ◌+◌, Bool, true, false, cond, List, [], ◌∷◌, ◌++◌, Some, None, Option, sym, refl, ap, ◌∙◌, append_assoc, append-nil}
+use Rattle.std.proofs.Common.{◌≡◌, ℕ, zero, suc, Bool, true, false, cond, List, [], ◌∷◌, ◌++◌, Some, None, Option, sym, refl, ap, ◌∙◌, append_assoc, append-nil}
 use Rattle.table.specs.Rules.{TaskSet, task_count}
 use Rattle.table.specs.declared.refusal.Refusal.{Refusal}
 use Rattle.policy.specs.Order.{Order}

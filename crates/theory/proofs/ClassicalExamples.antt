@@ -2,7 +2,6 @@
 use Rattle.std.proofs.Common.{◌≡◌, ℕ, [], ◌∷◌, refl}
 use Rattle.table.specs.Rules.{TaskSet}
 use Rattle.table.specs.Sporadic.{Sporadic}
-use Rattle.table.specs.declared.kinds.Mode.{Mode}
 use Rattle.table.specs.declared.kinds.Mode.TheVariants.{NonPreemptive, Preemptive}
 use Rattle.table.specs.declared.kinds.PolicyCode.TheVariants.{Fixed}
 use Rattle.theory.specs.Sums.{sum_below, max_below}

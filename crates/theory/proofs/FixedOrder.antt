@@ -1,16 +1,11 @@
 -- Under fixed priorities: what is ahead and what blocks are read off the ranks.
-use Rattle.std.proofs.Common.{◌≡◌, ℕ, ◌-◌, ◌*◌, ◌<◌, ◌≤◌, Bool, true, false, cond, ◌&&◌, eqb, ltb, ◌⊎◌, ℤ, pos, negsuc, sym, refl, ap, ◌∙◌, inl, inr, le_antisymm, zero-mul, arith}
+use Rattle.std.proofs.Common.{◌≡◌, ℕ, ◌-◌, ◌*◌, ◌<◌, ◌≤◌, Bool, true, false, cond, ◌&&◌, eqb, ltb, ◌⊎◌, ℤ, pos, negsuc, sym, ap, ◌∙◌, inl, inr, le_antisymm, zero-mul, arith}
 use lib.Signed.{lt_z}
-use Rattle.std.proofs.lemmas.Int.{ints}
-use Rattle.std.proofs.lemmas.Bool.Decides.{nat_tests}
 use Rattle.std.proofs.lemmas.Bool.{cases_eq, cases_Bool, both_ways, cond-true, cond-false, and_parts, and_from, eq-eqb, ne_eqb, le-ltb, lt-ltb, ltb-true}
 use Rattle.table.specs.Rules.{TaskSet, Checked, task_at, task_count}
-use Rattle.table.proofs.Ranges.{task_ranges, ranks_apart}
-use Rattle.policy.specs.declared.job.Reach.TheVariants.{Always, Never}
-use Rattle.policy.specs.Order.{job, reaches}
-use Rattle.policy.specs.Laws.{Total, Transitive, EarlierFirst, SmallReach, ReachRange, ReachRule, Lawful}
+use Rattle.table.proofs.Ranges.{task_ranges}
+use Rattle.policy.specs.Order.{job}
 use Rattle.policy.specs.Orders.{fixed_order}
-use Rattle.policy.specs.Different.{differ}
 use Rattle.theory.specs.BusyPeriod.{ceil_div}
 use Rattle.theory.specs.Response.{jobs_ahead, work_ahead, blocking}
 use Rattle.theory.specs.FixedPriority.{sum_above, blocking_below}

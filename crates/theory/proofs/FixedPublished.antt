@@ -1,5 +1,5 @@
 -- The worst response under fixed priorities is the greatest of the published recurrences.
-use Rattle.std.proofs.Common.{◌≡◌, ℕ, ◌+◌, ◌-◌, ◌*◌, ◌/◌, ◌<◌, ◌≤◌, max, ◌⊎◌, inl, inr, add-mul, le_antisymm, zero-mul, div-mul-le_self, arith}
+use Rattle.std.proofs.Common.{◌≡◌, ℕ, ◌+◌, ◌*◌, ◌/◌, ◌<◌, ◌≤◌, max, ◌⊎◌, inl, inr, add-mul, le_antisymm, zero-mul, div-mul-le_self, arith}
 use Rattle.std.proofs.lemmas.Bool.{cases_lt}
 use Rattle.table.specs.Rules.{TaskSet, Checked, task_at, task_count}
 use Rattle.table.specs.declared.kinds.Mode.{Mode}

@@ -1,5 +1,5 @@
 -- The work of the tasks above i: it grows with the window, two windows hold no less than the one they make, and it fits into the busy period.
-use Rattle.std.proofs.Common.{◌≡◌, ℕ, suc, ◌+◌, ◌-◌, ◌*◌, ◌/◌, ◌<◌, ◌≤◌, Bool, true, false, cond, ltb, sym, refl, ap, mul-le-mul_right, add-mul, arith}
+use Rattle.std.proofs.Common.{◌≡◌, ℕ, suc, ◌+◌, ◌*◌, ◌/◌, ◌<◌, ◌≤◌, Bool, true, false, cond, ltb, sym, refl, ap, mul-le-mul_right, add-mul, arith}
 use Rattle.table.specs.Rules.{TaskSet, Checked, task_at, task_count}
 use Rattle.table.specs.declared.kinds.Mode.{Mode}
 use Rattle.table.specs.declared.kinds.Mode.TheVariants.{NonPreemptive, Preemptive}

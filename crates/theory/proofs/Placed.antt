@@ -1,5 +1,5 @@
 -- What every course keeps of its releases, whatever the order: each is of a task of the table, and those of one task are at least T apart.
-use Rattle.std.proofs.Common.{◌≡◌, ℕ, ◌+◌, ◌<◌, Bool, false, ◌⊎◌, List, map, Some, None, Option, sym, ap, ◌∙◌, subst, inl, inr}
+use Rattle.std.proofs.Common.{◌≡◌, ◌+◌, ◌<◌, Bool, false, ◌⊎◌, List, Some, None, Option, sym, ap, ◌∙◌, subst, inl, inr}
 use Rattle.table.specs.Rules.{TaskSet, task_count}
 use Rattle.policy.specs.Order.{Order}
 use Rattle.theory.specs.Lists.{In}

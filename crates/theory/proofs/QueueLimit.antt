@@ -1,5 +1,5 @@
 -- A full line needs a deadline already missed: 8 jobs of a task that wait at a release that is not too soon span 8 periods.
-use Rattle.std.proofs.Common.{◌≡◌, ℕ, zero, suc, ◌+◌, ◌-◌, ◌*◌, ◌<◌, ◌≤◌, Bool, true, false, cond, ◌&&◌, eqb, ltb, leb, ◌⊎◌, List, [], ◌∷◌, ◌++◌, Some, None, Option, sym, refl, ap, ◌∙◌, subst, inl, inr, suc-mul, arith}
+use Rattle.std.proofs.Common.{◌≡◌, ℕ, zero, suc, ◌+◌, ◌-◌, ◌*◌, ◌<◌, ◌≤◌, Bool, true, false, cond, ◌&&◌, ltb, leb, ◌⊎◌, List, [], ◌∷◌, ◌++◌, Some, None, Option, sym, refl, ap, ◌∙◌, subst, inl, inr, suc-mul, arith}
 use Rattle.std.proofs.lemmas.Bool.{cases_Bool, both_ways, cond-true, cond-false, and_cases, eq-eqb, eqb-true, ltb-false, leb-true, not-true}
 use Rattle.table.specs.Rules.{TaskSet, Checked, task_at, task_count}
 use Rattle.table.specs.declared.refusal.Refusal.{Refusal}
@@ -9,8 +9,8 @@ use Rattle.policy.specs.Order.{Order}
 use Rattle.policy.specs.Laws.{Lawful}
 use Rattle.theory.specs.BusyPeriod.{BusyPeriod}
 use Rattle.theory.specs.Lists.{In, any, those, how_many}
-use Rattle.theory.specs.Machine.{Work, State, Call, release, tick, look, Answer, Refused, Released, Idle, Ran, Finished, Looked, refusal, reply, answer, answer_by, told, step, play, answers, start, of_task, waits, waiting, longest_line, last_time, job_to_run, ends}
-use Rattle.theory.specs.Guarantee.{after, OverdueOf, FullLineOverdueItself, NeverFull, AdmittedBy}
+use Rattle.theory.specs.Machine.{Work, State, Call, release, tick, look, Refused, Ran, Finished, refusal, reply, answer, answer_by, told, play, answers, start, of_task, waits, waiting, longest_line, last_time, job_to_run, ends}
+use Rattle.theory.specs.Guarantee.{after, OverdueOf, FullLineOverdueItself, NeverFull}
 use Rattle.theory.proofs.Bound.{never_longer}
 use Rattle.theory.proofs.Courses.{play_snoc}
 use Rattle.theory.proofs.MachineFacts.{Spaced, facts_after}

@@ -3,7 +3,7 @@ use Rattle.std.proofs.Common.{◌≡◌, ℕ, suc, ◌+◌, ◌-◌, ◌*◌, �
 use Rattle.std.proofs.lemmas.Bool.{cases_lt, both_ways, cond-true, cond-false}
 use Rattle.table.specs.Rules.{TaskSet, Checked, task_at, task_count}
 use Rattle.table.specs.declared.kinds.Mode.TheVariants.{NonPreemptive, Preemptive}
-use Rattle.policy.specs.Order.{Order, job}
+use Rattle.policy.specs.Order.{Order}
 use Rattle.policy.specs.Laws.{Lawful}
 use Rattle.theory.specs.LeastSolution.{LeastSolution}
 use Rattle.theory.specs.BusyPeriod.{ceil_div, BusyPeriod}

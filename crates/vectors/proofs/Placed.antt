@@ -1,7 +1,7 @@
 -- Whether a task fits at a rank, by its computed worst response there; and the priorities of the first pair in both modes.
-use Rattle.std.proofs.Common.{◌≡◌, ℕ, zero, suc, ◌<◌, ◌≤◌, true, ltb, leb, refl, inr, arith}
+use Rattle.std.proofs.Common.{◌≡◌, ℕ, zero, suc, ◌<◌, true, ltb, leb, refl, inr, arith}
 use Rattle.std.proofs.lemmas.Bool.{ltb-true, leb-true}
-use Rattle.table.specs.Rules.{TaskSet, task_at, task_count, follows_rules}
+use Rattle.table.specs.Rules.{TaskSet, task_at, follows_rules}
 use Rattle.table.specs.declared.kinds.Mode.{Mode}
 use Rattle.table.specs.declared.kinds.Mode.TheVariants.{NonPreemptive, Preemptive}
 use Rattle.table.specs.declared.kinds.PolicyCode.TheVariants.{Fixed}
