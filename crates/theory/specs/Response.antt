@@ -1,4 +1,4 @@
--- The response of a job of task i released at offset a into a busy period, preemptive and non_preemptive.
+-- The response of a job of task i released at offset a into a busy period, preemptive and non-preemptive.
 use Rattle.std.specs.Prelude.{◌≡◌, ℕ, suc, ◌+◌, ◌-◌, ◌*◌, ◌/◌, max, cond, ◌&&◌, pos, negsuc, ◌==◌, nat_lt}
 use Rattle.table.specs.Rules.{TaskSet, task_at, task_count}
 use Rattle.table.specs.declared.kinds.Mode.{Mode}
