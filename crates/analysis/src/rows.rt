@@ -2,7 +2,7 @@
 
 /// The worst response of one task, the least offset that gives it, and the task's deadline; laid out as C has it.
 #[repr(C)]
-#[derive(Clone, Copy)]
+#[derive(Clone, Copy, Debug, PartialEq, Eq)]
 pub struct Row {
     /// The longest response over all offsets in the busy period.
     pub response: u32,
@@ -13,7 +13,7 @@ pub struct Row {
 }
 
 /// Whether every response is within its deadline.
-#[derive(Clone, Copy)]
+#[derive(Clone, Copy, Debug, PartialEq, Eq)]
 pub enum Verdict {
     /// Every task meets its deadline.
     Admitted,
@@ -22,7 +22,7 @@ pub enum Verdict {
 }
 
 /// The busy period of the table, and the verdict.
-#[derive(Clone, Copy)]
+#[derive(Clone, Copy, Debug, PartialEq, Eq)]
 pub struct Judgement {
     /// 1 to 60,000 ticks.
     pub busy_period: u32,

@@ -2,7 +2,7 @@
 use table::Refusal;
 
 /// What a tick did.
-#[derive(Clone, Copy)]
+#[derive(Clone, Copy, Debug, PartialEq, Eq)]
 pub enum Ticked {
     /// No job waited.
     Idle,
@@ -20,7 +20,7 @@ pub enum Ticked {
 }
 
 /// The counts of one task.
-#[derive(Clone, Copy)]
+#[derive(Clone, Copy, Debug, PartialEq, Eq)]
 pub struct Counts {
     /// Releases that were not refused.
     pub accepted: u32,
@@ -35,7 +35,7 @@ pub struct Counts {
 }
 
 /// A call of a run.
-#[derive(Clone, Copy)]
+#[derive(Clone, Copy, Debug, PartialEq, Eq)]
 pub enum Event {
     /// A job of this task is released now.
     Release { task: usize },
@@ -46,7 +46,7 @@ pub enum Event {
 }
 
 /// The answer to a call.
-#[derive(Clone, Copy)]
+#[derive(Clone, Copy, Debug, PartialEq, Eq)]
 pub enum Reply {
     /// The call changed nothing.
     Refused { why: Refusal },
@@ -59,7 +59,7 @@ pub enum Reply {
 }
 
 /// A call, and the place for its answer.
-#[derive(Clone, Copy)]
+#[derive(Clone, Copy, Debug, PartialEq, Eq)]
 pub struct Step {
     /// What is asked.
     pub call: Event,

@@ -1,7 +1,7 @@
 //! Jobs, and how far one task reaches before another.
 
 /// One release of a task: the task's number and the tick of the release.
-#[derive(Clone, Copy)]
+#[derive(Clone, Copy, Debug, PartialEq, Eq)]
 pub struct Job {
     /// Counted from 0, in table order.
     pub task: usize,
@@ -10,7 +10,7 @@ pub struct Job {
 }
 
 /// How late a job of another task may be released and still be ahead of a job of this one.
-#[derive(Clone, Copy)]
+#[derive(Clone, Copy, Debug, PartialEq, Eq)]
 pub enum Reach {
     /// Whenever it is released.
     Always,

@@ -10,7 +10,7 @@ use policy::Policy;
 use table::{Refusal, Table};
 
 /// A deadline that was missed: the job of this task, released then, was unfinished at this time.
-#[derive(Clone, Copy)]
+#[derive(Clone, Copy, Debug, PartialEq, Eq)]
 pub struct Miss {
     /// The number of the job's task.
     pub task: usize,

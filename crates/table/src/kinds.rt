@@ -4,7 +4,7 @@ ghost use Rattle.table.specs.Words.{mode_word, policy_word};
 ghost use Rattle.table.specs.Codes.{mode_code, policy_code, mode_coded, policy_coded};
 
 /// Whether a begun job may be displaced by one that is ahead of it.
-#[derive(Clone, Copy, PartialEq, Eq)]
+#[derive(Clone, Copy, Debug, PartialEq, Eq)]
 pub enum Mode {
     /// 0, "holding": a begun job runs until it is finished.
     NonPreemptive,
@@ -13,7 +13,7 @@ pub enum Mode {
 }
 
 /// Which of the shipped ordering policies a table file asks for.
-#[derive(Clone, Copy, PartialEq, Eq)]
+#[derive(Clone, Copy, Debug, PartialEq, Eq)]
 pub enum PolicyCode {
     /// 1: the lower rank is ahead.
     Fixed,

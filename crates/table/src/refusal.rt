@@ -3,7 +3,7 @@ ghost use Rattle.std.specs.Prelude.{◌≡◌};
 ghost use Rattle.table.specs.Refusals.{refusal_number, refusal_layer, refusal_place, refusal_rank, refusal_task};
 
 /// Which part of the planner refused.
-#[derive(Clone, Copy, PartialEq, Eq)]
+#[derive(Clone, Copy, Debug, PartialEq, Eq)]
 pub enum Layer {
     /// A table file: refusals 1 to 7.
     Reading,
@@ -14,7 +14,7 @@ pub enum Layer {
 }
 
 /// Why a call was refused. A place is a byte of the input, counted from 0.
-#[derive(Clone, Copy, PartialEq, Eq)]
+#[derive(Clone, Copy, Debug, PartialEq, Eq)]
 pub enum Refusal {
     /// The input ends inside the next mark or field; the place is its length.
     Ended { place: usize },
