@@ -9,12 +9,12 @@ ghost use Rattle.dispatch.specs.Fronts.{Fronted};
 ghost use Rattle.dispatch.specs.Leading.{Leading, Leads, Picked, better_of};
 ghost use Rattle.dispatch.specs.Lines.{board};
 ghost use Rattle.dispatch.specs.Oldest.{Oldest};
-ghost use Rattle.dispatch.specs.Replies.{release_told, tick_told, look_told};
+ghost use Rattle.dispatch.specs.Replies.{call_of, reply_told, release_told, tick_told, look_told};
 ghost use Rattle.dispatch.specs.Represents.{Answered, Answers};
 ghost use Rattle.dispatch.specs.Summaries.{Pending, ends_now};
 
 use crate::front::Front;
-use crate::replies::{Counts, Ticked};
+use crate::replies::{Counts, Event, Reply, Ticked};
 use crate::stage::{Head, Stage};
 use crate::station::Station;
 use policy::{Job, Policy};
@@ -167,6 +167,21 @@ impl<P: Policy> Run<P> {
         ensures { Oldest (P.meaning self.now.policy (content self.now.station.table)) self.now.station task result }
     {
         self.station.oldest(task)
+    }
+
+    /// Makes this call: the same as `release`, `tick` or `look`.
+    /// Refused, with the run as it was, where that method refuses it.
+    pub fn call(&mut self, call: Event) -> Result<Reply, Refusal>
+        ensures policy { self.new.policy ≡ self.old.policy }
+        ensures table { self.new.station.table ≡ self.old.station.table }
+        ensures refused { OnErr result (self.new ≡ self.old) }
+        ensures answered { Answers (P.meaning self.old.policy (content self.old.station.table)) self.old.station self.new.station (call_of call) (reply_told result) }
+    {
+        match call {
+            Event::Release { task } => self.release(task).map(|time| Reply::Released { time }),
+            Event::Tick { done } => self.tick(done).map(|what| Reply::Ticked { what }),
+            Event::Look { task } => self.look(task).map(|counts| Reply::Looked { counts }),
+        }
     }
 }
 
