@@ -27,16 +27,9 @@ fn better<P: Policy>(policy: &P, table: &Table, best: Head, task: usize, first: 
     let Some(release) = first else {
         return best;
     };
-    let mine = Job {
-        task,
-        release: i64::from(release),
-    };
-    let other = Job {
-        task: best.task,
-        release: i64::from(best.release),
-    };
-    if policy.ahead(table, mine, other) {
-        Head { task, release }
+    let mine = Head { task, release };
+    if policy.ahead(table, Job::from(mine), Job::from(best)) {
+        mine
     } else {
         best
     }
@@ -46,9 +39,7 @@ fn better<P: Policy>(policy: &P, table: &Table, best: Head, task: usize, first: 
 fn leader<P: Policy>(policy: &P, station: &Station) -> Option<Head>
     ensures { Leading (ahead_answer (content station.now.table) (P.meaning policy.now (content station.now.table))) (board station.now.lines) (task_count (content station.now.table)) result }
 {
-    let Some(first) = station.first_waiting() else {
-        return None;
-    };
+    let first = station.first_waiting()?;
     let table = station.table();
     let mut best = first;
     let next = first.task + 1;
@@ -62,10 +53,7 @@ fn leader<P: Policy>(policy: &P, station: &Station) -> Option<Head>
 fn leading_task<P: Policy>(policy: &P, station: &Station) -> Option<usize>
     ensures { Leads (ahead_answer (content station.now.table) (P.meaning policy.now (content station.now.table))) (board station.now.lines) (task_count (content station.now.table)) result }
 {
-    match leader(policy, station) {
-        Some(head) => Some(head.task),
-        None => None,
-    }
+    leader(policy, station).map(|head| head.task)
 }
 
 // The task whose first job is to run.
@@ -74,8 +62,7 @@ fn pick<P: Policy>(policy: &P, station: &Station) -> Option<usize>
 {
     match (station.table().mode(), station.stage()) {
         (Mode::NonPreemptive, Stage::Begun { task }) => Some(task),
-        (Mode::NonPreemptive, Stage::Idle) => leading_task(policy, station),
-        (Mode::Preemptive, _) => leading_task(policy, station),
+        (Mode::NonPreemptive, Stage::Idle) | (Mode::Preemptive, _) => leading_task(policy, station),
     }
 }
 
