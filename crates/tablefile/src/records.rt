@@ -1,12 +1,5 @@
-//! The records of a table file, each at a place of the input.
+//! What the records of a table file say.
 use table::{Mode, PolicyCode};
-
-/// The bytes of a header.
-pub(crate) const HEADER_LEN: usize = 6;
-/// The bytes of a task without its name.
-pub(crate) const TASK_LEN: usize = 10;
-/// The bytes of an end.
-pub(crate) const END_LEN: usize = 2;
 
 /// What a header says.
 #[derive(Clone, Copy)]
@@ -46,5 +39,3 @@ pub enum Record<'a> {
     /// The last record; nothing follows it.
     End,
 }
-
-pub(crate) mod places;
