@@ -4,7 +4,7 @@ use Rattle.std.proofs.lemmas.List.{drop_all}
 use Rattle.std.proofs.lemmas.Bool.Decides.{nat_tests}
 use Rattle.std.specs.List.{flat_map}
 use Rattle.std.proofs.lemmas.Bool.{eqb-true}
-use Rattle.table.proofs.Every.{and_true, and_right}
+use Rattle.table.proofs.Every.{and_true}
 use Rattle.table.specs.Codes.{mode_code, policy_code, mode_coded, policy_coded}
 use Rattle.table.specs.Sporadic.{Sporadic, every, name_byte, within, task_in_range, cost_in_range, period_in_range, deadline_in_range, rank_in_range, name_in_range}
 use Rattle.table.specs.Rules.{band_in_range, rank_free, ranks_differ}

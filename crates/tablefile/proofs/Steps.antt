@@ -5,7 +5,6 @@ use Rattle.table.specs.declared.kinds.Mode.{Mode}
 use Rattle.table.specs.declared.kinds.PolicyCode.{PolicyCode}
 use Rattle.tablefile.specs.Fields.{Read, ◌then◌, mark_at, policy_at, mode_at, count_at, band_at, cost_at, period_at, deadline_at, rank_at, name_at}
 use Rattle.tablefile.specs.Format.{header_at, task_at}
-use Rattle.tablefile.specs.declared.records.HeaderFields.{HeaderFields}
 
 module _ (s : List ℕ) (p : ℕ) {m : ℕ} where
   pub header_says : {policy : PolicyCode} {mode : Mode} {n : ℕ} {band : Read ℕ} → Ok m ≡ mark_at s p 0x4854 → Ok policy ≡ policy_at s (p + 2) → Ok mode ≡ mode_at s (p + 3) → Ok n ≡ count_at s (p + 4) → band ≡ band_at s (p + 5) policy n → (band then λ b. Ok (record { policy = policy; mode = mode; count = n; band = b })) ≡ header_at s p

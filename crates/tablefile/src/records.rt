@@ -2,7 +2,7 @@
 use table::{Mode, PolicyCode};
 
 /// What a header says.
-#[derive(Clone, Copy)]
+#[derive(Clone, Copy, Debug, PartialEq, Eq)]
 pub struct HeaderFields {
     /// The policy that the table asks for.
     pub policy: PolicyCode,
@@ -15,7 +15,7 @@ pub struct HeaderFields {
 }
 
 /// What a task record says; its name is a part of the input.
-#[derive(Clone, Copy)]
+#[derive(Clone, Copy, Debug, PartialEq, Eq)]
 pub struct TaskFields<'a> {
     /// C.
     pub cost: u32,
@@ -30,7 +30,7 @@ pub struct TaskFields<'a> {
 }
 
 /// A record of a table file, as a reader hands it out.
-#[derive(Clone, Copy)]
+#[derive(Clone, Copy, Debug, PartialEq, Eq)]
 pub enum Record<'a> {
     /// The first record.
     Header(HeaderFields),

@@ -36,5 +36,5 @@ fn damaged(at: usize, byte: u8) -> Result<usize, Refusal> {
     if at < LEN {
         file[at] = byte;
     }
-    tasks(&file[..LEN])
+    tasks(&file[0..LEN])
 }

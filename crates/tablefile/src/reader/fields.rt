@@ -34,7 +34,8 @@ impl<'a> Reader<'a> {
         passes(number).then_some(number).ok_or(refusal)
     }
 
-    // A number of two bytes, the high one first, that passes the test.
+    // A number of two bytes, the high one first, that passes the test. What is read differs from `small`, not the
+    // type alone: one generic function would need a trait for these two lines.
     pub(super) fn number<F: FnOnce(u32) -> bool>(
         &mut self,
         passes: F,
@@ -50,9 +51,8 @@ impl<'a> Reader<'a> {
     }
 
     // What a byte stands for.
-    pub(super) fn code<T: TryFrom<u8>>(&mut self) -> Result<T, Refusal>
+    pub(super) fn code<T: TryFrom<u8> + Drop>(&mut self) -> Result<T, Refusal>
     where
-        T: Drop,
         T::Error: Drop,
         ensures value { Decoded (byte_at self.old.src.now self.old.pos) T.try_from_gives (Refusal.HeaderRange self.old.pos) result }
         ensures place { OnOk result (self.new.pos ≡ self.old.pos + 1) }

@@ -1,4 +1,4 @@
-use Rattle.std.proofs.Common.{◌≡◌, ◌<◌, map, length, take, sym, ◌∙◌, arith, length-set}
+use Rattle.std.proofs.Common.{◌<◌, map, length, take, sym, ◌∙◌, arith, length-set}
 use Rattle.std.proofs.lemmas.Result.{err_from_is_err_and}
 use Rattle.table.specs.Content.{sporadic}
 use Rattle.tablefile.specs.Format.{task_at}

@@ -1,6 +1,5 @@
-use Rattle.std.proofs.Common.{◌≡◌, ◌+◌, [], map, take, Ok, Err, subst, ◌∙◌, rules, arith}
+use Rattle.std.proofs.Common.{◌≡◌, [], Ok, subst, ◌∙◌, rules, arith}
 use Rattle.std.proofs.lemmas.Result.{err_from_is_err_and}
-use Rattle.table.specs.Content.{sporadic}
 use Rattle.table.specs.Model.{content, Built}
 use Rattle.tablefile.specs.Format.{header_at, tasks_at}
 use Rattle.tablefile.proofs.Files.{header_refused, few_tasks, tasks_refused, file_built, is_built}

@@ -2,7 +2,6 @@ use Rattle.std.proofs.Common.{◌≡◌, ℕ, ◌+◌, Ok, Err, rules}
 use Rattle.std.proofs.lemmas.Result.{err_from_is_err_and}
 use Rattle.tablefile.specs.Fields.{Read, ◌then◌, mark_at, policy_at, mode_at, count_at, band_at}
 use Rattle.tablefile.specs.Format.{header_at}
-use Rattle.tablefile.specs.declared.records.HeaderFields.{HeaderFields}
 use Rattle.tablefile.proofs.Steps.{header_says}
 use Rattle.tablefile.proofs.reader.Reader.read_header.Goals as goal
 use Rattle.tablefile.proofs.reader.Reader.read_header.Goals.{In_ok-count}
