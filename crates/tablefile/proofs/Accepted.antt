@@ -4,7 +4,7 @@ use Rattle.std.proofs.lemmas.List.{drop_all}
 use Rattle.std.proofs.lemmas.Bool.Decides.{nat_tests}
 use Rattle.std.specs.List.{flat_map}
 use Rattle.std.proofs.lemmas.Bool.{eqb-true}
-use Rattle.table.proofs.Every.{and_true, and_right}
+use Rattle.table.proofs.Every.{and_true}
 use Rattle.table.specs.Codes.{mode_code, policy_code, mode_coded, policy_coded}
 use Rattle.table.specs.Sporadic.{Sporadic, every, name_byte, within, task_in_range, cost_in_range, period_in_range, deadline_in_range, rank_in_range, name_in_range}
 use Rattle.table.specs.Rules.{band_in_range, rank_free, ranks_differ}
@@ -34,6 +34,28 @@ pub record TaskRead (s : List ℕ) (p n : ℕ) (earlier : List Sporadic) (t : Sp
   pub ranges : task_in_range n t ≡ true
   pub free : rank_free t.rank earlier ≡ true
   pub bytes : drop p s ≡ task_bytes t ++ drop (p + 10 + length t.name) s
+
+module _ (s : List ℕ) where
+  name_here : (p from : ℕ) {name : List ℕ} → p + 1 ≡ from → name_at s p ≡ Ok name → (name_in_range name ≡ true) × (drop p s ≡ length name ∷ (name ++ drop (from + length name) s))
+  name_here p from {name} next h =
+      let a = then_ok (name_length_at s p) _ h in
+      let f = tested_byte s p (within 1 8) (TaskRange p) a.1 in
+      let l = letters_here s a.0 (p + 1) a.2 in
+      let long = l.0 in (
+        and_true (within 1 8 (length name)) (every name_byte name) (ap (within 1 8) long ∙ f.2) l.1,
+        byte_here s p (p + 1) refl f.0 (f.1 ∙ sym long) ∙ ap (λ xs. length name ∷ xs) (l.2 ∙ (λ i. name ++ drop (next i + sym long i) s)),
+      )
+
+  -- the name of a task that was read
+  pub name_good : (p n : ℕ) (earlier : List Sporadic) (t : Sporadic) → task_at s p n earlier ≡ Ok t → name_in_range t.name ≡ true
+  name_good p n earlier t e =
+      let a = then_ok (mark_at s p 0x544B) _ e in
+      let b = then_ok (cost_at s (p + 2)) _ a.2 in
+      let c = then_ok (period_at s (p + 4)) _ b.2 in
+      let d = then_ok (deadline_at s (p + 6) c.0) _ c.2 in
+      let f = then_ok (rank_at s (p + 8) n earlier) _ d.2 in
+      let g = then_ok (name_at s (p + 9)) _ f.2 in
+      ap (λ x. name_in_range x.name) (sym (same_value g.2)) ∙ (name_here (p + 9) (p + 10) (omega arith) g.1).0
 
 module _ (s : List ℕ) (fit : (i : ℕ) → get_or s i 0 < 256) where
   mark_here : (p mark q : ℕ) {m : ℕ} → p + 2 ≡ q → mark_at s p mark ≡ Ok m → drop p s ≡ mark / 256 ∷ mark % 256 ∷ drop q s
@@ -83,16 +105,6 @@ module _ (s : List ℕ) (fit : (i : ℕ) → get_or s i 0 < 256) where
       let same = c.1 ∙ d.1 in
       (f.0, f.1 ∙ same, ap (rank_in_range n) (sym same) ∙ c.0, ap (λ x. rank_free x earlier) (sym d.1) ∙ d.0)
 
-  name_here : (p from : ℕ) {name : List ℕ} → p + 1 ≡ from → name_at s p ≡ Ok name → (name_in_range name ≡ true) × (drop p s ≡ length name ∷ (name ++ drop (from + length name) s))
-  name_here p from {name} next h =
-      let a = then_ok (name_length_at s p) _ h in
-      let f = tested_byte s p (within 1 8) (TaskRange p) a.1 in
-      let l = letters_here s a.0 (p + 1) a.2 in
-      let long = l.0 in (
-        and_true (within 1 8 (length name)) (every name_byte name) (ap (within 1 8) long ∙ f.2) l.1,
-        byte_here s p (p + 1) refl f.0 (f.1 ∙ sym long) ∙ ap (λ xs. length name ∷ xs) (l.2 ∙ (λ i. name ++ drop (next i + sym long i) s)),
-      )
-
   pub task_read : (p n : ℕ) (earlier : List Sporadic) {t : Sporadic} → task_at s p n earlier ≡ Ok t → TaskRead s p n earlier t
   task_read p n earlier e =
       let a = then_ok (mark_at s p 0x544B) _ e in
@@ -105,7 +117,7 @@ module _ (s : List ℕ) (fit : (i : ℕ) → get_or s i 0 < 256) where
       let period = tested_number s (p + 4) period_in_range (TaskRange (p + 4)) c.1 in
       let deadline = tested_number s (p + 6) (deadline_in_range c.0) (TaskRange (p + 6)) d.1 in
       let rank = rank_here (p + 8) n earlier f.1 in
-      let name = name_here (p + 9) (p + 10) (omega arith) g.1 in
+      let name = name_here s (p + 9) (p + 10) (omega arith) g.1 in
       subst (TaskRead s p n earlier) (same_value g.2) (record {
         ranges = and_true _ _ cost.2 (and_true _ _ period.2 (and_true _ _ deadline.2 (and_true _ _ rank.2 name.0)));
         free = rank.3;
@@ -117,13 +129,6 @@ module _ (s : List ℕ) (fit : (i : ℕ) → get_or s i 0 < 256) where
             ∙ ap (λ xs. two_bytes d.0 ++ xs) (byte_here s (p + 8) (p + 9) (omega arith) rank.0 rank.1
             ∙ ap (λ xs. f.0 ∷ xs) name.1))));
       })
-
-  pub name_good : (p n : ℕ) (earlier : List Sporadic) (t : Sporadic) → task_at s p n earlier ≡ Ok t → name_in_range t.name ≡ true
-  name_good p n earlier t e =
-      let a = and_right (cost_in_range t.cost) _ (task_read p n earlier e).ranges in
-      let b = and_right (period_in_range t.period) _ a in
-      let c = and_right (deadline_in_range t.period t.deadline) _ b in
-      and_right (rank_in_range n t.rank) (name_in_range t.name) c
 
   end_read : (p : ℕ) {q : ℕ} → end_at s p ≡ Ok q → drop p s ≡ end_bytes
   end_read p e =

@@ -1,12 +1,14 @@
 -- The bytes determine the table, and the table the bytes.
-use Rattle.std.proofs.Common.{◌≡◌, ℕ, ◌-◌, ◌<◌, ◌≤◌, true, false, leb, List, [], ◌∷◌, ◌++◌, map, length, get_or, take, Ok, Err, sym, refl, ap, ◌∙◌, subst}
-use native.Mathlib.Nat.{sub-zero}
+use Rattle.std.proofs.Common.{◌≡◌, ℕ, ◌<◌, ◌≤◌, true, leb, List, [], ◌∷◌, ◌++◌, map, length, get_or, take, Ok, Err, sym, refl, ap, ◌∙◌, subst, Some, None, Option, rules}
 use Rattle.std.proofs.lemmas.Bool.{leb-true, both_ways}
 use Rattle.std.specs.List.{flat_map}
 use Rattle.table.proofs.Every.{and_true, and_left, and_right}
 use Rattle.table.specs.Codes.{mode_code, policy_code}
 use Rattle.table.specs.Content.{sporadic}
+use Rattle.table.specs.declared.checked.Table.{Table}
 use Rattle.table.specs.declared.task.Task.{Task}
+use Rattle.table.specs.Model.{Built}
+use Rattle.std.specs.Option.{IsSome}
 use Rattle.table.specs.Sporadic.{Sporadic, every, within, task_in_range}
 use Rattle.table.specs.Rules.{TaskSet, band_in_range, ranks_differ, follows_rules}
 use Rattle.table.specs.declared.kinds.PolicyCode.{PolicyCode}
@@ -94,12 +96,13 @@ module _ (s : List ℕ) (h : HeaderFields) (head : Ok h ≡ header_at s 0) where
   tasks_refused why bad = then_go (header_at s 0) _ (sym head) (ap (λ r. r then λ ts. Ok (of_header h ts)) bad)
 
   module _ (room : List Task) (good : tasks_at s h.count h.count [] 6 ≡ Ok (map sporadic (take h.count room))) where
-    stored : file s ≡ Ok (of_header h (map sporadic (take (h.count - 0) room)))
+    stored : file s ≡ Ok (of_header h (map sporadic (take h.count room)))
     unfolding file
-    stored = then_go (header_at s 0) _ (sym head) (ap (λ r. r then λ ts. Ok (of_header h ts)) (good ∙ ap (λ k. Ok (map sporadic (take k room))) (sym (sub-zero h.count))))
+    stored = then_go (header_at s 0) _ (sym head) (ap (λ r. r then λ ts. Ok (of_header h ts)) good)
 
-    pub file_built : (w : TaskSet) → w ≡ of_header h (map sporadic (take (h.count - 0) room)) → file s ≡ Ok w
+    pub file_built : (w : TaskSet) → w ≡ of_header h (map sporadic (take h.count room)) → file s ≡ Ok w
     file_built w same = stored ∙ ap Ok (sym same)
 
-    pub never_broken : (fit : (i : ℕ) → get_or s i 0 < 256) → follows_rules h.policy h.band (map sporadic (take (h.count - 0) room)) ≡ false → ⊥
-    never_broken fit broken = both_ways (follows_rules h.policy h.band (map sporadic (take (h.count - 0) room))) broken (file_read s fit (of_header h (map sporadic (take (h.count - 0) room))) stored).0
+    pub is_built : (fit : (i : ℕ) → get_or s i 0 < 256) (o : Option Table) → Built (of_header h (map sporadic (take h.count room))) o → IsSome o
+    is_built fit (Some t) built = search rules
+    is_built fit None broken = absurd (both_ways (follows_rules h.policy h.band (map sporadic (take h.count room))) broken (file_read s fit (of_header h (map sporadic (take h.count room))) stored).0)

@@ -6,3 +6,4 @@ pub mod Accepted
 pub mod Laid
 pub mod Files
 pub mod Turns
+pub mod Steps

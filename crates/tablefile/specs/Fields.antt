@@ -1,7 +1,7 @@
 -- The fields of a table file, each read at a place of the input, counted from 0.
 -- Where the input ends inside the field it is refused with the input's length, whatever its first byte is;
 -- where the value is out of range, with the field's own place.
-use Rattle.std.specs.Prelude.{ℕ, zero, suc, ◌+◌, ◌*◌, Bool, cond, List, [], ◌∷◌, length, Some, None, Ok, Err, Option, Result, ◌==◌, nat_lt, slice_index}
+use Rattle.std.specs.Prelude.{◌≡◌, ◌⊎◌, MatchResult, ℕ, zero, suc, ◌+◌, ◌*◌, Bool, cond, List, [], ◌∷◌, length, Some, None, Ok, Err, Option, Result, ◌==◌, nat_lt, slice_index}
 use Rattle.table.specs.Sporadic.{Sporadic, within, name_byte, cost_in_range, period_in_range, deadline_in_range, rank_in_range}
 use Rattle.table.specs.Rules.{band_in_range, rank_free}
 use Rattle.table.specs.Codes.{mode_coded, policy_coded}
@@ -28,6 +28,14 @@ tested good why x = cond good (Ok x) (Err why)
 abbrev pub known : {X : Type 0} → Option X → Refusal → Read X
 known (Some x) why = Ok x
 known None why = Err why
+
+-- the result of a read and of a test that may answer so of what was read
+abbrev pub Tested : Read ℕ → (ℕ → Bool → Type 0) → Refusal → Read ℕ → Type 0
+Tested read answers why result = (good : Bool) × ((n : ℕ) → read ≡ Ok n → answers n good) × (result ≡ (read then λ n. tested good why n))
+
+-- the result of a read and of a conversion that may give so of what was read
+abbrev pub Decoded : {X E : Type 0} → Read ℕ → (ℕ → Result X E → Type 0) → Refusal → Read X → Type 0
+Decoded {X} {E} read gives why result = MatchResult result (λ x. (n : ℕ) × (read ≡ Ok n) × gives n (Ok x)) (λ bad. (read ≡ Err bad) ⊎ ((n : ℕ) × (e : E) × (read ≡ Ok n) × gives n (Err e) × (bad ≡ why)))
 
 abbrev pub byte_at : List ℕ → ℕ → Read ℕ
 byte_at s p = cond (nat_lt p (length s)) (Ok (slice_index s p)) (Err (Ended (length s)))

@@ -1,7 +1,6 @@
 //! Table files: the records of a file, one by one, and reading a whole file into a table.
 #![tactic(auto)]
 
-mod fields;
 pub mod reader;
 pub mod records;
 pub mod whole;

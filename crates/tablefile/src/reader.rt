@@ -1,18 +1,21 @@
 //! The records of a file, one by one.
-ghost use Rattle.std.specs.Prelude.{◌≡◌, map};
+ghost use Rattle.std.specs.Prelude.{◌≡◌, ◌≤◌, map, length};
 ghost use Rattle.table.specs.Content.{sporadic};
 ghost use Rattle.tablefile.specs.Handed.{next_header, next_task, next_end, handed, behind};
 
-use crate::records::places::{end_at, header_at, task_at};
-use crate::records::{END_LEN, HEADER_LEN, Record, TASK_LEN};
+use crate::records::Record;
 use table::{Refusal, Task};
 
 /// A place in the bytes of a file, at which the next record is asked for.
-#[derive(Drop)]
+#[derive(Clone, Copy)]
 pub struct Reader<'a> {
     src: &'a [u8],
     pos: usize,
+    ghost inside: { pos ≤ length src.now },
 }
+
+mod fields;
+mod records;
 
 impl<'a> Reader<'a> {
     /// A reader at the first byte.
@@ -29,8 +32,9 @@ impl<'a> Reader<'a> {
         ensures place { self.new.pos ≡ behind self.old.pos (handed result) }
         ensures input { self.new.src ≡ self.old.src }
     {
-        let header = header_at(self.src, self.pos)?;
-        self.pos += HEADER_LEN;
+        let mut ahead = *self;
+        let header = ahead.read_header()?;
+        *self = ahead;
         Ok(Record::Header(header))
     }
 
@@ -40,8 +44,9 @@ impl<'a> Reader<'a> {
         ensures place { self.new.pos ≡ behind self.old.pos (handed result) }
         ensures input { self.new.src ≡ self.old.src }
     {
-        let task = task_at(self.src, self.pos, count, earlier)?;
-        self.pos += TASK_LEN + task.name.len();
+        let mut ahead = *self;
+        let task = ahead.read_task(count, earlier)?;
+        *self = ahead;
         Ok(Record::Task(task))
     }
 
@@ -51,8 +56,9 @@ impl<'a> Reader<'a> {
         ensures place { self.new.pos ≡ behind self.old.pos (handed result) }
         ensures input { self.new.src ≡ self.old.src }
     {
-        end_at(self.src, self.pos)?;
-        self.pos += END_LEN;
+        let mut ahead = *self;
+        ahead.read_end()?;
+        *self = ahead;
         Ok(Record::End)
     }
 }

@@ -1,15 +1,8 @@
-//! The records of a table file, each at a place of the input.
+//! What the records of a table file say.
 use table::{Mode, PolicyCode};
 
-/// The bytes of a header.
-pub(crate) const HEADER_LEN: usize = 6;
-/// The bytes of a task without its name.
-pub(crate) const TASK_LEN: usize = 10;
-/// The bytes of an end.
-pub(crate) const END_LEN: usize = 2;
-
 /// What a header says.
-#[derive(Clone, Copy)]
+#[derive(Clone, Copy, Debug, PartialEq, Eq)]
 pub struct HeaderFields {
     /// The policy that the table asks for.
     pub policy: PolicyCode,
@@ -22,7 +15,7 @@ pub struct HeaderFields {
 }
 
 /// What a task record says; its name is a part of the input.
-#[derive(Clone, Copy)]
+#[derive(Clone, Copy, Debug, PartialEq, Eq)]
 pub struct TaskFields<'a> {
     /// C.
     pub cost: u32,
@@ -37,7 +30,7 @@ pub struct TaskFields<'a> {
 }
 
 /// A record of a table file, as a reader hands it out.
-#[derive(Clone, Copy)]
+#[derive(Clone, Copy, Debug, PartialEq, Eq)]
 pub enum Record<'a> {
     /// The first record.
     Header(HeaderFields),
@@ -46,5 +39,3 @@ pub enum Record<'a> {
     /// The last record; nothing follows it.
     End,
 }
-
-pub(crate) mod places;

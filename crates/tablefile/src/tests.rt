@@ -10,40 +10,31 @@ const FILE: [u8; 38] =
 
 #[test]
 fn a_good_file(rt: HostRuntime) {
-    assert_eq!(rt; outcome(&FILE[0..LEN]), (0, 2));
+    assert_eq!(rt; tasks(&FILE[..LEN]), Ok(2));
 }
 
 #[test]
 fn each_refusal(rt: HostRuntime) {
-    assert_eq!(rt; outcome(&FILE[0..36]), (1, 36));
-    assert_eq!(rt; damaged(7, 0x54), (2, 6));
-    assert_eq!(rt; damaged(5, 1), (3, 5));
-    assert_eq!(rt; damaged(12, 1), (4, 12));
-    assert_eq!(rt; damaged(29, 1), (5, 29));
-    assert_eq!(rt; damaged(18, 0x6d), (6, 18));
-    assert_eq!(rt; outcome(&FILE), (7, LEN));
+    assert_eq!(rt; tasks(&FILE[..36]), Err(Refusal::Ended { place: 36 }));
+    assert_eq!(rt; damaged(7, 0x54), Err(Refusal::WrongMark { place: 6 }));
+    assert_eq!(rt; damaged(5, 1), Err(Refusal::HeaderRange { place: 5 }));
+    assert_eq!(rt; damaged(12, 1), Err(Refusal::TaskRange { place: 12 }));
+    assert_eq!(rt; damaged(29, 1), Err(Refusal::RankTaken { place: 29 }));
+    assert_eq!(rt; damaged(18, 0x6d), Err(Refusal::NameByte { place: 18 }));
+    assert_eq!(rt; tasks(&FILE), Err(Refusal::Trailing { place: LEN }));
 }
 
-// The number of the refusal and its place; 0 and the number of tasks where there is none.
-fn outcome(bytes: &[u8]) -> (u8, usize) {
+// How many tasks the table has that the bytes say.
+fn tasks(bytes: &[u8]) -> Result<usize, Refusal> {
     let mut table = Table::fresh();
-    match read_table(bytes, &mut table) {
-        Ok(()) => (0, table.count()),
-        Err(Refusal::Ended { place }) => (1, place),
-        Err(Refusal::WrongMark { place }) => (2, place),
-        Err(Refusal::HeaderRange { place }) => (3, place),
-        Err(Refusal::TaskRange { place }) => (4, place),
-        Err(Refusal::RankTaken { place }) => (5, place),
-        Err(Refusal::NameByte { place }) => (6, place),
-        Err(Refusal::Trailing { place }) => (7, place),
-        Err(_) => (8, 0),
-    }
+    read_table(bytes, &mut table)?;
+    Ok(table.count())
 }
 
-fn damaged(at: usize, byte: u8) -> (u8, usize) {
+fn damaged(at: usize, byte: u8) -> Result<usize, Refusal> {
     let mut file = FILE;
     if at < LEN {
         file[at] = byte;
     }
-    outcome(&file[0..LEN])
+    tasks(&file[0..LEN])
 }

@@ -8,53 +8,46 @@ ghost use Rattle.tablefile.specs.Layout.{LaysOut};
 ghost use Rattle.tablefile.specs.Format.{tasks_at, file};
 ghost use Rattle.tablefile.specs.Handed.{task_said};
 
-use crate::records::places::{end_at, header_at, task_at};
-use crate::records::{HEADER_LEN, TASK_LEN, TaskFields};
+use crate::reader::Reader;
+use crate::records::TaskFields;
 use table::{MOST_TASKS, Name, Refusal, Table, Task};
 
+// The task of these fields. No `From`, as the name has to be in range.
 fn stored(fields: TaskFields) -> Task
     requires { name_in_range fields.name.now ≡ true }
     ensures { sporadic result ≡ task_said fields.entry }
 {
-    let Some(name) = Name::new(fields.name) else {
-        unreachable()
-    };
     Task {
         cost: fields.cost,
         period: fields.period,
         deadline: fields.deadline,
         rank: fields.rank,
-        name,
+        name: Name::new(fields.name).unwrap(),
     }
 }
 
-// The tasks behind the header, and the end.
-fn read_tasks(src: &[u8], count: usize, room: &mut [Task]) -> Result<(), Refusal>
+// The tasks behind the header, and the end. By index, as each task is read against those stored before it.
+fn read_tasks(reader: &mut Reader, count: usize, room: &mut [Task]) -> Result<(), Refusal>
     requires { count ≤ length room.old }
-    ensures { MatchResult result (λ _. tasks_at src.now count count [] 6 ≡ Ok (map sporadic (take count room.new))) (λ why. tasks_at src.now count count [] 6 ≡ Err why) }
+    ensures { MatchResult result (λ _. tasks_at reader.old.src.now count count [] reader.old.pos ≡ Ok (map sporadic (take count room.new))) (λ why. tasks_at reader.old.src.now count count [] reader.old.pos ≡ Err why) }
 {
-    let mut pos = HEADER_LEN;
     for at in 0..count {
-        let fields = task_at(src, pos, count, &room[0..at])?;
-        pos += TASK_LEN + fields.name.len();
+        let fields = reader.read_task(count, &room[..at])?;
         room[at] = stored(fields);
     }
-    end_at(src, pos)?;
-    Ok(())
+    reader.read_end()
 }
 
-// The table that the whole input says.
+// The table that the whole input says. What was read keeps the rules, so `Table::new` finds none broken.
 fn table_of(bytes: &[u8]) -> Result<Table, Refusal>
     ensures { MatchResult result (λ table. file bytes.now ≡ Ok (content table)) (λ why. file bytes.now ≡ Err why) }
 {
-    let header = header_at(bytes, 0)?;
-    let count = header.count;
+    let mut reader = Reader::new(bytes);
+    let header = reader.read_header()?;
     let mut room = [Task::fresh(); MOST_TASKS];
-    read_tasks(bytes, count, &mut room)?;
-    match Table::new(header.policy, header.mode, header.band, &room[0..count]) {
-        Some(table) => Ok(table),
-        None => unreachable(),
-    }
+    read_tasks(&mut reader, header.count, &mut room)?;
+    let tasks = &room[..header.count];
+    Ok(Table::new(header.policy, header.mode, header.band, tasks).unwrap())
 }
 
 /// Fills the place with the table that the file says; a refusal leaves the place as it was.
