@@ -48,6 +48,7 @@ fn put_stretch(page: &mut Page, busy_period: u32)
 }
 
 // One task.
+#[tactic(auto, using(crate::proofs::Pages::then))]
 fn put_row(page: &mut Page, number: usize, task: &Task, row: &Row)
     ensures { Written page.old (task_line number (sporadic task.now) row.now) page.new }
 {

@@ -5,7 +5,7 @@ ghost use Rattle.report.specs.Pasted.{Put};
 use itoa::Buffer;
 
 /// Writes all the bytes from the place on and answers how many; where they do not fit it writes nothing and answers 0.
-// The answer is a count, and 0 is how many bytes stand in the output then: no code that a caller has to test.
+// Not an Option: the answer is a count, and 0 is how many bytes were written then, which callers add to their place as any other.
 pub fn put_bytes(out: &mut [u8], at: usize, bytes: &[u8]) -> usize
     ensures { Put out.old at bytes.now out.new result }
 {
