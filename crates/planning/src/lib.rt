@@ -12,24 +12,15 @@ ghost use Rattle.report.specs.Reported.{Reported};
 ghost use Rattle.table.specs.Model.{content};
 
 use analysis::{Judgement, Row, judge};
-use policy::{Arrival, Bands, ByCode, Deadline, Fixed};
+use policy::ByCode;
 use report::{put_refusal, report};
-use table::{MOST_TASKS, PolicyCode, Refusal, Table};
+use table::{MOST_TASKS, Refusal, Table};
 use tablefile::read_table;
 use theory::facts::analysis_is_unique;
 
-// The judgement under the policy that the table's own code asks for.
-fn judge_by_code(table: &Table, rows: &mut [Row]) -> Result<Judgement, Refusal>
-    ensures judged { Judged (content table.now) (chosen_order (content table.now)) rows.old rows.new result }
-    ensures never_longer { OnOk result (RowsBound (content table.now) (chosen_order (content table.now)) rows.new) }
-    ensures attained { IfOk result (λ j. RowsAttained (content table.now) (chosen_order (content table.now)) rows.new j.verdict) }
-    ensures late_exactly { IfOk result (λ j. VerdictExact (content table.now) (chosen_order (content table.now)) j.verdict) }
-{
-    judge(&ByCode, table, rows)
-}
-
 /// Judges a table under the policy that its own code asks for, as `analysis::judge` does, with the same promises of every run.
 /// Beside them stand the published analyses: under Fixed each row's response is the greatest that the recurrences give; under Deadline the table is admitted exactly when the demand criterion holds; and whatever the code, an admitted table meets that criterion.
+#[tactic(auto, using(crate::proofs::Analyses::published, table::proofs::Tables::table_checked))]
 pub fn judge_table(table: &Table, rows: &mut [Row]) -> Result<Judgement, Refusal>
     ensures judged { Judged (content table.now) (chosen_order (content table.now)) rows.old rows.new result }
     ensures never_longer { OnOk result (RowsBound (content table.now) (chosen_order (content table.now)) rows.new) }
@@ -37,19 +28,14 @@ pub fn judge_table(table: &Table, rows: &mut [Row]) -> Result<Judgement, Refusal
     ensures late_exactly { IfOk result (λ j. VerdictExact (content table.now) (chosen_order (content table.now)) j.verdict) }
     ensures published { IfOk result (λ j. AsPublished (content table.now) rows.new j.verdict) }
 {
-    judge_by_code(table, rows)
+    judge(&ByCode, table, rows)
 }
 
 /// The report of a table under the policy that its code asks for: Bands is Fixed over Deadline with the table's band.
 pub fn report_by_code(table: &Table, rows: &mut [Row], out: &mut [u8]) -> Result<usize, Refusal>
     ensures { Reported (content table.now) (chosen_order (content table.now)) rows.old rows.new out.old out.new result }
 {
-    match table.policy() {
-        PolicyCode::Fixed => report(&Fixed, table, rows, out),
-        PolicyCode::Deadline => report(&Deadline, table, rows, out),
-        PolicyCode::Arrival => report(&Arrival, table, rows, out),
-        PolicyCode::Bands => report(&Bands::new(table.band(), Fixed, Deadline), table, rows, out),
-    }
+    report(&ByCode, table, rows, out)
 }
 
 /// Reads a table file and writes its report at the start of the output, and answers its length; a refusal leaves rows and output as they were.
@@ -65,6 +51,7 @@ pub fn plan(input: &[u8], rows: &mut [Row], out: &mut [u8]) -> Result<usize, Ref
 fn tell(planned: Result<usize, Refusal>, out: &mut [u8]) -> usize
     ensures { Told planned out.old out.new result }
 {
+    // A match: behind `unwrap_or_else` a proof knows no byte of the output that the closure borrowed, not even where it did not run.
     match planned {
         Ok(len) => len,
         Err(refusal) => put_refusal(out, refusal),

@@ -1,4 +1,5 @@
 pub mod Pasted
 pub mod Text
+pub mod Written
 pub mod Reported
 pub mod RefusalText

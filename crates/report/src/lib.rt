@@ -2,6 +2,7 @@
 #![tactic(auto)]
 
 mod lines;
+mod page;
 pub mod place;
 mod refused;
 pub mod whole;

@@ -4,6 +4,7 @@ ghost use Rattle.table.specs.Model.{content};
 ghost use Rattle.report.specs.Reported.{Reported, longest_report};
 
 use crate::lines::put_report;
+use crate::page::Page;
 use analysis::{Row, judge};
 use policy::Policy;
 use table::{Refusal, Table};
@@ -28,5 +29,7 @@ pub fn report<P: Policy>(
         return Err(Refusal::ShortOutput);
     }
     let judgement = judge(policy, table, rows)?;
-    Ok(put_report(out, table, &judgement, rows))
+    let mut page = Page::new(out);
+    put_report(&mut page, table, &judgement, rows);
+    Ok(page.written())
 }

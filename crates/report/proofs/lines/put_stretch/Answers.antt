@@ -1,5 +1,5 @@
-use Rattle.report.proofs.Pastes.{then}
+use Rattle.report.proofs.Pages.{then}
 use Rattle.report.proofs.lines.put_stretch.Goals as goal
 
 pub returns : goal.returns
-returns c = then c.put_word-number_at.ensures c.put_figure.ensures
+returns c = then c.word.ensures c.number.ensures

@@ -1,7 +1,6 @@
-use Rattle.std.proofs.Common.{sym, ap}
-use Rattle.report.specs.RefusalText.{place_word}
-use Rattle.report.proofs.Pastes.{then, appended, reworded}
+use Rattle.std.proofs.Common.{arith, lit<}
+use Rattle.std.proofs.lemmas.Fmt.{length-decimal-le}
 use Rattle.report.proofs.refused.put_place.Goals as goal
 
-pub returns-in-Some : goal.returns-in-Some
-returns-in-Some c = reworded 10 (place_word c.args.place) (ap place_word (sym c.in-Some.is)) (then (appended c.put_digits.ensures) (appended c.put_bytes.ensures))
+pub returns-in-Some-clause-few : goal.returns-in-Some-clause-few
+returns-in-Some-clause-few c = rw c.in-Some.is (length-decimal-le 20 c.in-Some.place (lit< tt) (omega arith) (omega arith))
