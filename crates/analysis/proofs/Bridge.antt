@@ -4,7 +4,7 @@ use Rattle.std.proofs.lemmas.Bool.Decides.{nat_tests}
 use Rattle.std.proofs.lemmas.Int.{ints}
 use lib.Signed.{le_z}
 use Rattle.table.specs.Rules.{TaskSet, Checked, task_at, task_count}
-use Rattle.table.proofs.Ranges.{task_ranges, count_ranges}
+use Rattle.table.proofs.Ranges.{task_ranges}
 use Rattle.policy.specs.Order.{Order, job, reaches}
 use Rattle.policy.specs.Laws.{Lawful, SmallReach}
 use Rattle.policy.specs.Answers.{reach_answer}
@@ -14,7 +14,7 @@ use Rattle.policy.specs.declared.job.Reach.TheVariants.{Always, Never, Within}
 use Rattle.theory.specs.BusyPeriod.{ceil_div}
 use Rattle.theory.specs.Response.{jobs_ahead, work_ahead, blocking}
 use Rattle.theory.specs.Sums.{sum_below, max_below}
-use Rattle.analysis.specs.Lanes.{lane_at, lane_jobs, lanes_work, limited, lanes_block, Sound, SoundLane}
+use Rattle.analysis.specs.Lanes.{lane_at, lane_jobs, lanes_work, limited, lanes_block}
 use Rattle.analysis.specs.Reaches.{lead_of, LaneTo}
 use Rattle.analysis.specs.declared.lanes.Lane.{Lane}
 use Rattle.analysis.proofs.Counting.{count_same, count_both}
@@ -77,21 +77,6 @@ module _ (s : TaskSet) (o : Order) (checked : Checked s) (lawful : Lawful s o) (
 
       apart : eqb i j ≡ false
       apart = grind (arith, nat_tests)
-
-  pub made_sound : Sound ls
-  made_sound = record {
-    few = subst (λ n. n ≤ 24) (sym made.long) (count_ranges s checked).1;
-    each = λ j h. let k : j < task_count s = subst (λ n. j < n) made.long h in one j k;
-  }
-    where
-      costs : (j : ℕ) → j < task_count s → cond (eqb j i) 0 (task_at s j).cost ≤ 4096
-      costs j k = let r = task_ranges s checked j k in grind (arith, nat_tests, r.cost_high)
-
-      one : (j : ℕ) → j < task_count s → SoundLane (lane_at ls j)
-      one j k =
-          let l = made.each j k in
-          let r = task_ranges s checked j k in
-          record { period_low = omega (arith, l.1, r.period_low); period_high = omega (arith, l.1, r.period_high); cost_high = omega (arith, l.0, costs j k); lead_high = omega (arith, l.2, lead_small (reach_answer s o i j) (asked_small s o lawful i j)) }
 
   -- a release of another task is ahead exactly as its lane says
   ahead_lane : (j : ℕ) → j < task_count s → (j ≡ i → ⊥) → (r a : ℕ) → r ≤ 60001 → a ≤ 60000 → o.ahead (job j (pos r)) (job i (pos a)) ≡ leb (r + 100000) (a + (lane_at ls j).lead)

@@ -1,4 +1,5 @@
 pub mod Growth
+pub mod Listed
 pub mod Windows
 pub mod Bests
 pub mod Counting

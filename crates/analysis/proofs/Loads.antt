@@ -1,11 +1,11 @@
 -- Lanes that count every release ask for the load of the table.
-use Rattle.std.proofs.Common.{◌≡◌, ℕ, ◌+◌, ◌*◌, ◌<◌, ◌≤◌, List, length, sym, ap, subst, ap₂, mul-le-mul, arith}
+use Rattle.std.proofs.Common.{◌≡◌, ℕ, ◌+◌, ◌*◌, ◌<◌, ◌≤◌, List, length, ap, ap₂, mul-le-mul, arith}
 use Rattle.table.specs.Rules.{TaskSet, Checked, task_at, task_count}
 use Rattle.table.proofs.Ranges.{task_ranges, count_ranges}
 use Rattle.theory.specs.BusyPeriod.{ceil_div, load, BusyPeriod, Overloaded}
 use Rattle.theory.specs.Sums.{sum_below}
 use Rattle.analysis.specs.Busy.{FullLane}
-use Rattle.analysis.specs.Lanes.{lane_at, lane_jobs, lanes_work, Sound, SoundLane}
+use Rattle.analysis.specs.Lanes.{lane_at, lane_jobs, lanes_work}
 use Rattle.analysis.specs.declared.lanes.Lane.{Lane}
 use Rattle.analysis.proofs.Counting.{ceil_small}
 use Rattle.analysis.proofs.Exact.{own_count}
@@ -14,15 +14,6 @@ use Rattle.theory.proofs.Sums.{sum_cong, sum_split}
 use Rattle.analysis.proofs.Windows.{covers_solves, least_upto}
 
 module _ (s : TaskSet) (checked : Checked s) (ls : List Lane) (long : length ls ≡ task_count s) (full : (j : ℕ) → j < task_count s → FullLane (task_at s j) (lane_at ls j)) where
-  pub full_sound : Sound ls
-  full_sound = record {
-    few = subst (λ n. n ≤ 24) (sym long) (count_ranges s checked).1;
-    each = λ j h. let k : j < task_count s = subst (λ n. j < n) long h in one j k;
-  }
-    where
-      one : (j : ℕ) → j < task_count s → SoundLane (lane_at ls j)
-      one j k = let l = full j k in let r = task_ranges s checked j k in record { period_low = omega (arith, l.1, r.period_low); period_high = omega (arith, l.1, r.period_high); cost_high = omega (arith, l.0, r.cost_high); lead_high = omega (arith, l.2) }
-
   pub full_work : (t : ℕ) → t ≤ 60000 → 0 + lanes_work ls t ≡ load s t
   full_work t h =
       let same : sum_below (task_count s) (λ j. lane_jobs (lane_at ls j) t * (lane_at ls j).cost) ≡ load s t = sum_cong (task_count s) (λ j. lane_jobs (lane_at ls j) t * (lane_at ls j).cost) (λ j. ceil_div t (task_at s j).period * (task_at s j).cost) each in
@@ -46,7 +37,7 @@ module _ (s : TaskSet) (checked : Checked s) (ls : List Lane) (long : length ls 
   pub climbed_busy : (t : ℕ) → 1 ≤ t → t ≤ 60000 → 0 + lanes_work ls t ≤ t → ((v : ℕ) → 1 ≤ v → 0 + lanes_work ls v ≤ v → t ≤ v) → BusyPeriod s t
   climbed_busy t low high covers first =
       least_upto 1 t 60000 (λ v. 0 + lanes_work ls v) (load s) full_work high
-      (covers_solves (λ v. 0 + lanes_work ls v) (λ x y h. omega (arith, work_mono ls full_sound x y h)) t low (omega (arith, full_work t high, loaded t low)) covers first)
+      (covers_solves (λ v. 0 + lanes_work ls v) (λ x y h. omega (arith, work_mono ls x y h)) t low (omega (arith, full_work t high, loaded t low)) covers first)
 
   pub none_overloaded : ((v : ℕ) → 1 ≤ v → 0 + lanes_work ls v ≤ v → 60000 < v) → Overloaded s
   none_overloaded none L short busy =

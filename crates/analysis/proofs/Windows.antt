@@ -1,12 +1,12 @@
 -- Windows over lanes: lanes set to an offset, and how their work grows with time and offset.
-use Rattle.std.proofs.Common.{◌≡◌, ℕ, ◌+◌, ◌-◌, ◌*◌, ◌/◌, ◌<◌, ◌≤◌, Bool, true, false, cond, ltb, leb, List, [], ◌∷◌, map, length, sym, refl, ap, ◌∙◌, subst, ap₂, mul-le-mul_right, mul-le-mul, arith}
+use Rattle.std.proofs.Common.{◌≡◌, ℕ, ◌+◌, ◌-◌, ◌*◌, ◌/◌, ◌<◌, ◌≤◌, Bool, true, false, cond, ltb, leb, List, [], ◌∷◌, map, length, sym, refl, ap, ◌∙◌, ap₂, mul-le-mul_right, mul-le-mul, arith}
 use Rattle.std.proofs.lemmas.Bool.Decides.{nat_tests}
 use Rattle.std.proofs.lemmas.List.{get_or-map}
 use lib.ListN.{length-map}
 use Rattle.theory.specs.LeastSolution.{LeastSolution}
 use Rattle.theory.specs.Sums.{sum_below, max_below}
-use Rattle.analysis.specs.Lanes.{no_lane, lane_at, lane_jobs, lanes_work, lane_limit, limited, lanes_block, Sound, SoundLane}
-use Rattle.analysis.specs.Own.{own_work, work_in, window_work, SoundOwn}
+use Rattle.analysis.specs.Lanes.{no_lane, lane_at, lane_jobs, lanes_work, lane_limit, limited, lanes_block}
+use Rattle.analysis.specs.Own.{own_work, work_in, window_work}
 use Rattle.analysis.specs.declared.lanes.Lane.{Lane}
 use Rattle.analysis.specs.declared.window.Own.{Own}
 use Rattle.table.specs.declared.kinds.Mode.{Mode}
@@ -24,12 +24,6 @@ module _ (a : ℕ) (ls : List Lane) where
   pub limited_at : (j : ℕ) → j < length ls → lane_at (map (limited a) ls) j ≡ limited a (lane_at ls j)
   limited_at j h = get_or-map (limited a) ls j no_lane no_lane h
 
-  pub limited_sound : Sound ls → Sound (map (limited a) ls)
-  limited_sound sound = record {
-    few = subst (λ n. n ≤ 24) (sym (length-map ls (limited a))) sound.few;
-    each = λ j h. let k : j < length ls = subst (λ n. j < n) (length-map ls (limited a)) h in let l = sound.each j k in subst SoundLane (sym (limited_at j k)) (record { period_low = l.period_low; period_high = l.period_high; cost_high = l.cost_high; lead_high = l.lead_high });
-  }
-
   -- the work of lanes at an offset, by the lanes themselves
   pub limited_work : (t : ℕ) → lanes_work (map (limited a) ls) t ≡ sum_below (length ls) (λ j. lane_jobs (limited a (lane_at ls j)) t * (lane_at ls j).cost)
   limited_work t =
@@ -46,35 +40,35 @@ pub limited_twice : (a b : ℕ) (ls : List Lane) → map (limited b) (map (limit
 limited_twice a b [] = refl
 limited_twice a b (l ∷ ls) = ap (λ ys. limited b l ∷ ys) (limited_twice a b ls)
 
-pub limit_mono : (l : Lane) → SoundLane l → (a b : ℕ) → a ≤ b → lane_limit l a ≤ lane_limit l b
-limit_mono l sound a b h =
-    let grows = div_mono l.period (a + l.lead - 100000) (b + l.lead - 100000) sound.period_low (omega arith) in
+pub limit_mono : (l : Lane) (a b : ℕ) → a ≤ b → lane_limit l a ≤ lane_limit l b
+limit_mono l a b h =
+    let grows = div_mono l.period (a + l.lead - 100000) (b + l.lead - 100000) l.period_low (omega arith) in
     grind (arith, nat_tests, grows)
 
 -- a later offset has at least as much work ahead of it
-pub offset_mono : (ls : List Lane) → Sound ls → (a b t : ℕ) → a ≤ b → lanes_work (map (limited a) ls) t ≤ lanes_work (map (limited b) ls) t
-offset_mono ls sound a b t h =
+pub offset_mono : (ls : List Lane) (a b t : ℕ) → a ≤ b → lanes_work (map (limited a) ls) t ≤ lanes_work (map (limited b) ls) t
+offset_mono ls a b t h =
     let one : sum_below (length ls) (λ j. lane_jobs (limited a (lane_at ls j)) t * (lane_at ls j).cost) ≤ sum_below (length ls) (λ j. lane_jobs (limited b (lane_at ls j)) t * (lane_at ls j).cost) = sum_mono (length ls) (λ j. lane_jobs (limited a (lane_at ls j)) t * (lane_at ls j).cost) (λ j. lane_jobs (limited b (lane_at ls j)) t * (lane_at ls j).cost) (λ j k. mul-le-mul_right (lane_at ls j).cost (jobs_more j k)) in
     omega (arith, one, limited_work a ls t, limited_work b ls t)
   where
     jobs_more : (j : ℕ) → j < length ls → lane_jobs (limited a (lane_at ls j)) t ≤ lane_jobs (limited b (lane_at ls j)) t
-    jobs_more j k = omega (arith, limit_mono (lane_at ls j) (sound.each j k) a b h)
+    jobs_more j k = omega (arith, limit_mono (lane_at ls j) a b h)
 
 -- the own work of a window is at least 1
-pub own_positive : (w : Own) → SoundOwn w → (ls : List Lane) (a : ℕ) → 1 ≤ own_work w ls a
-own_positive w sound ls a = go w.mode
+pub own_positive : (w : Own) (ls : List Lane) (a : ℕ) → 1 ≤ own_work w ls a
+own_positive w ls a = go w.mode
   where
     go : (m : Mode) → 1 ≤ work_in m w.cost w.period ls a
-    go Preemptive = omega (arith, sound.cost_low, mul-le-mul {n₁ = 1} {m₁ = w.cost} {n₂ = 1 + a / w.period} {m₂ = w.cost} (omega arith) (omega arith))
+    go Preemptive = omega (arith, w.cost_low, mul-le-mul {n₁ = 1} {m₁ = w.cost} {n₂ = 1 + a / w.period} {m₂ = w.cost} (omega arith) (omega arith))
     go NonPreemptive = omega arith
 
 -- what a climb from a sound start gives is the least solution of the window
-module _ (w : Own) (ls : List Lane) (a : ℕ) (sound : Sound ls) (own : SoundOwn w) where
+module _ (w : Own) (ls : List Lane) (a : ℕ) where
   window_mono : (t v : ℕ) → t ≤ v → window_work w ls a t ≤ window_work w ls a v
-  window_mono t v h = omega (arith, work_mono (map (limited a) ls) (limited_sound a ls sound) t v h)
+  window_mono t v h = omega (arith, work_mono (map (limited a) ls) t v h)
 
   pub solved_window : (t : ℕ) → 1 ≤ t → window_work w ls a t ≤ t → ((v : ℕ) → 1 ≤ v → window_work w ls a v ≤ v → t ≤ v) → LeastSolution 1 (window_work w ls a) t
-  solved_window t low covers first = covers_solves (window_work w ls a) window_mono t low (omega (arith, own_positive w own ls a)) covers first
+  solved_window t low covers first = covers_solves (window_work w ls a) window_mono t low (omega (arith, own_positive w ls a)) covers first
 
 -- climbing may begin at the last solution unless the own work has fallen
 pub restart_low : (work last_work at start : ℕ) (W : ℕ → ℕ) → start ≡ cond (ltb work last_work) 1 at → 1 ≤ at → ((v : ℕ) → 1 ≤ v → last_work + W v ≤ v → at ≤ v) → (1 ≤ start) × ((v : ℕ) → 1 ≤ v → work + W v ≤ v → start ≤ v)

@@ -1,12 +1,13 @@
 -- The other tasks as one task's analysis sees them: each a lane of jobs, of which a number can come ahead of the job at an offset.
-use Rattle.std.specs.Prelude.{ℕ, ◌+◌, ◌-◌, ◌*◌, ◌/◌, ◌<◌, ◌≤◌, min, cond, List, length, nat_lt, slice_index_or}
+use Rattle.std.specs.Prelude.{ℕ, ◌+◌, ◌-◌, ◌*◌, ◌/◌, min, cond, List, length, nat_lt, slice_index_or}
+use Rattle.std.proofs.Common.{lit≤}
 use Rattle.theory.specs.BusyPeriod.{ceil_div}
 use Rattle.theory.specs.Sums.{sum_below, max_below}
 use Rattle.analysis.specs.declared.lanes.Lane.{Lane}
 
 -- past the last lane, one that no statement speaks of
 abbrev pub no_lane : Lane
-no_lane = record { cost = 0; period = 0; lead = 0; limit = 0 }
+no_lane = record { cost = 0; period = 1; lead = 0; limit = 0; cost_high = lit≤ tt; period_low = lit≤ tt; lead_high = lit≤ tt }
 
 abbrev pub lane_at : List Lane → ℕ → Lane
 lane_at ls j = slice_index_or ls j no_lane
@@ -23,18 +24,8 @@ abbrev pub lane_limit : Lane → ℕ → ℕ
 lane_limit l a = cond (nat_lt (a + l.lead) 100000) 0 ((a + l.lead - 100000) / l.period + 1)
 
 abbrev pub limited : ℕ → Lane → Lane
-limited a l = record { cost = l.cost; period = l.period; lead = l.lead; limit = lane_limit l a }
+limited a l = record l { limit = lane_limit l a }
 
 -- the greatest C - 1 of the lanes whose release at -1 is behind the offset a
 abbrev pub lanes_block : List Lane → ℕ → ℕ
 lanes_block ls a = max_below (length ls) (λ j. cond (nat_lt (a + (lane_at ls j).lead + 1) 100000) ((lane_at ls j).cost - 1) 0)
-
-pub record SoundLane (l : Lane) : Type 0 where
-  pub period_low : 1 ≤ l.period
-  pub period_high : l.period ≤ 65535
-  pub cost_high : l.cost ≤ 4096
-  pub lead_high : l.lead ≤ 200000
-
-pub record Sound (ls : List Lane) : Type 0 where
-  pub few : length ls ≤ 24
-  pub each : (j : ℕ) → j < length ls → SoundLane (lane_at ls j)

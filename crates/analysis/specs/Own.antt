@@ -26,8 +26,3 @@ window_work w ls a t = own_work w ls a + lanes_work (map (limited a) ls) t
 -- the response at offset a is r, by a solution of at most `busy`
 abbrev pub LaneResponse : Own → List Lane → ℕ → ℕ → ℕ → Type 0
 LaneResponse w ls busy a r = (t : ℕ) × (t ≤ busy) × LeastSolution 1 (window_work w ls a) t × (r ≡ response_in w.mode w.cost a t)
-
-pub record SoundOwn (w : Own) : Type 0 where
-  pub cost_low : 1 ≤ w.cost
-  pub cost_high : w.cost ≤ 4096
-  pub period_low : 1 ≤ w.period

@@ -5,7 +5,9 @@ ghost use Rattle.table.specs.Rules.{task_at, task_count};
 ghost use Rattle.analysis.specs.Busy.{FullLane, Busy};
 ghost use Rattle.analysis.specs.Lanes.{lane_at};
 
-use crate::lanes::{IDLE, Lane, climb};
+use crate::lanes::all::climb;
+use crate::lanes::{IDLE, Lane};
+use std::array;
 use table::Table;
 
 /// The longest busy period that is judged.
@@ -15,33 +17,21 @@ pub const LONGEST_BUSY_PERIOD: u32 = 60_000;
 fn full_lane(table: &Table, j: usize) -> Lane
     ensures { j < task_count (content table.now) → FullLane (task_at (content table.now) j) result }
 {
-    match table.task(j) {
-        Some(task) => Lane {
-            cost: task.cost,
-            period: task.period,
-            lead: 0,
-            limit: 70_000,
-        },
-        None => IDLE,
+    let Some(task) = table.task(j) else {
+        return IDLE;
+    };
+    Lane {
+        cost: task.cost,
+        period: task.period,
+        lead: 0,
+        limit: 70_000,
     }
-}
-
-// All tasks, with every release counted.
-fn full_lanes(table: &Table) -> [Lane; 24]
-    ensures room { length result ≡ 24 }
-    ensures each { (j : ℕ) → j < task_count (content table.now) → FullLane (task_at (content table.now) j) (lane_at result j) }
-{
-    let mut lanes = [IDLE; 24];
-    for j in 0..table.count() {
-        lanes[j] = full_lane(table, j);
-    }
-    lanes
 }
 
 /// The busy period of the table; none where there is none of up to 60,000 ticks.
 pub fn busy_period(table: &Table) -> Option<u32>
     ensures { Busy (content table.now) result }
 {
-    let lanes = full_lanes(table);
-    climb(&lanes[0..table.count()], 0, 1, LONGEST_BUSY_PERIOD)
+    let lanes: [Lane; 24] = array::from_fn(|j| full_lane(table, j));
+    climb(&lanes[..table.count()], 0, 1, LONGEST_BUSY_PERIOD)
 }

@@ -16,12 +16,14 @@ use crate::rows::{Judgement, Row, Verdict};
 use crate::window::Own;
 use crate::window::offsets::worst_response;
 use policy::{Policy, Reach};
+use std::array;
 use table::{Refusal, Table};
 
 // A reach with 100,000 added; Always and Never as far as an offset can tell.
 fn lead_of(reach: Reach) -> u32
     requires { SmallReach reach }
-    ensures { result ≡ lead_of reach }
+    ensures value { result ≡ lead_of reach }
+    ensures bound { result ≤ 200000 }
 {
     match reach {
         Reach::Always => 200_000,
@@ -34,28 +36,15 @@ fn lead_of(reach: Reach) -> u32
 fn lane_to<P: Policy>(policy: &P, table: &Table, i: usize, j: usize) -> Lane
     ensures { j < task_count (content table.now) → LaneTo (content table.now) (P.meaning policy.now (content table.now)) i j result }
 {
-    let lead = lead_of(policy.reach(table, i, j));
-    match table.task(j) {
-        Some(task) => Lane {
-            cost: if j == i { 0 } else { task.cost },
-            period: task.period,
-            lead,
-            limit: 0,
-        },
-        None => IDLE,
+    let Some(task) = table.task(j) else {
+        return IDLE;
+    };
+    Lane {
+        cost: if j == i { 0 } else { task.cost },
+        period: task.period,
+        lead: lead_of(policy.reach(table, i, j)),
+        limit: 0,
     }
-}
-
-// The lanes of all tasks in the analysis of task i.
-fn lanes_of<P: Policy>(policy: &P, table: &Table, i: usize) -> [Lane; 24]
-    ensures room { length result ≡ 24 }
-    ensures each { (j : ℕ) → j < task_count (content table.now) → LaneTo (content table.now) (P.meaning policy.now (content table.now)) i j (lane_at result j) }
-{
-    let mut lanes = [IDLE; 24];
-    for j in 0..table.count() {
-        lanes[j] = lane_to(policy, table, i, j);
-    }
-    lanes
 }
 
 // The row of task i.
@@ -64,26 +53,20 @@ fn row_of<P: Policy>(policy: &P, table: &Table, busy: u32, i: usize) -> Row
     requires short { busy ≤ 60000 }
     ensures { i < task_count (content table.now) → RowOf (content table.now) (P.meaning policy.now (content table.now)) busy i result }
 {
-    let mut lanes = lanes_of(policy, table, i);
-    match table.task(i) {
-        Some(task) => {
-            let own = Own {
-                mode: table.mode(),
-                cost: task.cost,
-                period: task.period,
-            };
-            let (response, offset) = worst_response(own, &mut lanes[0..table.count()], busy);
-            Row {
-                response,
-                offset,
-                deadline: task.deadline,
-            }
-        }
-        None => Row {
-            response: 0,
-            offset: 0,
-            deadline: 0,
-        },
+    let Some(task) = table.task(i) else {
+        return Row::default();
+    };
+    let mut lanes: [Lane; 24] = array::from_fn(|j| lane_to(policy, table, i, j));
+    let own = Own {
+        mode: table.mode(),
+        cost: task.cost,
+        period: task.period,
+    };
+    let (response, offset) = worst_response(own, &mut lanes[..table.count()], busy);
+    Row {
+        response,
+        offset,
+        deadline: task.deadline,
     }
 }
 
@@ -91,24 +74,21 @@ fn row_of<P: Policy>(policy: &P, table: &Table, busy: u32, i: usize) -> Row
 fn verdict(rows: &[Row]) -> Verdict
     ensures { VerdictOf (length rows.now) rows.now result }
 {
-    for (task, row) in rows.iter().enumerate() {
-        if row.response > row.deadline {
-            return Verdict::Late { task };
-        }
+    match rows.iter().position(|row| row.response > row.deadline) {
+        Some(task) => Verdict::Late { task },
+        None => Verdict::Admitted,
     }
-    Verdict::Admitted
 }
 
 // Writes the row of every task.
 fn fill_rows<P: Policy>(policy: &P, table: &Table, busy: u32, rows: &mut [Row])
     requires busy { BusyPeriod (content table.now) busy }
     requires short { busy ≤ 60000 }
-    requires enough { task_count (content table.now) ≤ length rows.old }
-    ensures each { (i : ℕ) → i < task_count (content table.now) → RowOf (content table.now) (P.meaning policy.now (content table.now)) busy i (row_at rows.new i) }
-    ensures rest { drop (task_count (content table.now)) rows.new ≡ drop (task_count (content table.now)) rows.old }
+    requires all { length rows.old ≡ task_count (content table.now) }
+    ensures { (i : ℕ) → i < task_count (content table.now) → RowOf (content table.now) (P.meaning policy.now (content table.now)) busy i (row_at rows.new i) }
 {
-    for i in 0..table.count() {
-        rows[i] = row_of(policy, table, busy, i);
+    for (i, row) in rows.iter_mut().enumerate() {
+        *row = row_of(policy, table, busy, i);
     }
 }
 
@@ -125,13 +105,12 @@ pub fn judge<P: Policy>(policy: &P, table: &Table, rows: &mut [Row]) -> Result<J
     if rows.len() < count {
         return Err(Refusal::FewRows);
     }
-    let Some(busy_period) = busy_period(table) else {
-        return Err(Refusal::NoBusyPeriod);
-    };
-    fill_rows(policy, table, busy_period, rows);
+    let busy_period = busy_period(table).ok_or(Refusal::NoBusyPeriod)?;
+    let front = &mut rows[..count];
+    fill_rows(policy, table, busy_period, front);
     Ok(Judgement {
         busy_period,
-        verdict: verdict(&rows[0..count]),
+        verdict: verdict(front),
     })
 }
 
@@ -143,8 +122,6 @@ pub fn analyse_task<P: Policy>(policy: &P, table: &Table, task: usize) -> Result
     if task >= table.count() {
         return Err(Refusal::NoTaskToJudge { task });
     }
-    let Some(busy_period) = busy_period(table) else {
-        return Err(Refusal::NoBusyPeriod);
-    };
+    let busy_period = busy_period(table).ok_or(Refusal::NoBusyPeriod)?;
     Ok(row_of(policy, table, busy_period, task))
 }

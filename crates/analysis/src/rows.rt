@@ -2,7 +2,7 @@
 
 /// The worst response of one task, the least offset that gives it, and the task's deadline; laid out as C has it.
 #[repr(C)]
-#[derive(Clone, Copy, Debug, PartialEq, Eq)]
+#[derive(Clone, Copy, Debug, Default, PartialEq, Eq)]
 pub struct Row {
     /// The longest response over all offsets in the busy period.
     pub response: u32,

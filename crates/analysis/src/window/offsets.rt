@@ -1,21 +1,19 @@
 //! The offsets of a window, one after the other.
-ghost use Rattle.std.specs.Prelude.{◌≡◌, ℕ, ◌+◌, ◌-◌, ◌*◌, ◌^◌, ◌<◌, ◌≤◌, map, if◌then◌else◌, nat_lt};
+ghost use Rattle.std.specs.Prelude.{◌≡◌, ℕ, ◌+◌, ◌-◌, ◌*◌, ◌^◌, ◌<◌, ◌≤◌, length, map, if◌then◌else◌, nat_lt};
 ghost use Rattle.analysis.specs.Best.{Best};
 ghost use Rattle.theory.specs.LeastSolution.{LeastSolution};
-ghost use Rattle.analysis.specs.Lanes.{Sound, limited, lanes_work};
-ghost use Rattle.analysis.specs.Own.{own_work, response_in, window_work, LaneResponse, SoundOwn};
+ghost use Rattle.analysis.specs.Lanes.{limited, lanes_work};
+ghost use Rattle.analysis.specs.Own.{own_work, response_in, window_work, LaneResponse};
 
 use super::Own;
-use crate::lanes::{Lane, blocking, climb, set_limits};
+use crate::lanes::Lane;
+use crate::lanes::all::{blocking, climb, set_limits};
 use table::Mode;
 
 // The work that the window at offset a begins with.
 fn own_work(own: Own, lanes: &[Lane], a: u32) -> u64
-    requires sound { Sound lanes.now }
-    requires own { SoundOwn own }
-    requires short { a ≤ 60000 }
     ensures value { result ≡ own_work own lanes.now a }
-    ensures light { result ≤ 2 ^ 40 }
+    ensures light { result ≤ 2 ^ 45 }
 {
     let earlier = u64::from(a / own.period);
     let cost = u64::from(own.cost);
@@ -27,8 +25,7 @@ fn own_work(own: Own, lanes: &[Lane], a: u32) -> u64
 
 // The response at offset a, where t is the least solution of its window.
 fn response(own: Own, t: u32, a: u32) -> u32
-    requires own { SoundOwn own }
-    requires short { t ≤ 60000 }
+    requires { t ≤ 60000 }
     ensures { result ≡ response_in own.mode own.cost a t }
 {
     match own.mode {
@@ -67,8 +64,7 @@ fn better(best: (u32, u32), response: u32, a: u32) -> (u32, u32)
 
 // The least solution of the window at offset a, from the solution of an earlier one.
 fn solve(own: Own, lanes: &mut [Lane], busy: u32, a: u32, last: Solved) -> Solved
-    requires sound { Sound lanes.old }
-    requires own { SoundOwn own }
+    requires few { length lanes.old ≤ 24 }
     requires short { busy ≤ 60000 }
     requires inside { a < busy }
     requires fits { window_work own lanes.old a busy ≤ busy }
@@ -91,8 +87,7 @@ fn solve(own: Own, lanes: &mut [Lane], busy: u32, a: u32, last: Solved) -> Solve
 
 // The longest response over all offsets below the busy period, and the least offset that gives it.
 pub(crate) fn worst_response(own: Own, lanes: &mut [Lane], busy: u32) -> (u32, u32)
-    requires sound { Sound lanes.old }
-    requires own { SoundOwn own }
+    requires few { length lanes.old ≤ 24 }
     requires short { busy ≤ 60000 }
     requires some { 1 ≤ busy }
     requires fits { (a : ℕ) → a < busy → window_work own lanes.old a busy ≤ busy }

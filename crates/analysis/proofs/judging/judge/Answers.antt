@@ -1,26 +1,32 @@
-use Rattle.std.proofs.Common.{ℕ, ◌-◌, ◌<◌, ◌≤◌, List, length, take, subst, arith}
+use Rattle.std.proofs.Common.{◌≡◌, ℕ, ◌<◌, ◌≤◌, List, ◌++◌, Some, length, drop, sym, subst, length-take-le, arith}
+use Rattle.std.proofs.Math.ListN.{get_or-append}
+use Rattle.std.proofs.lemmas.Slice.{drop-append-drop}
 use Rattle.table.specs.Model.{content}
+use Rattle.table.specs.Rules.{task_count}
 use Rattle.table.proofs.Tables.{table_checked}
 use Rattle.policy.proofs.Lawfulness.{lawful}
-use Rattle.analysis.specs.Judged.{Given, VerdictOf, Meets, no_row}
+use Rattle.analysis.specs.Busy.{Busy}
+use Rattle.analysis.specs.Judged.{Given, RowOf, VerdictOf, Meets, no_row, row_at}
 use Rattle.analysis.specs.declared.rows.Judgement.{Judgement}
 use Rattle.analysis.specs.declared.rows.Row.{Row}
 use Rattle.analysis.specs.declared.rows.Verdict.{Verdict}
 use Rattle.analysis.specs.declared.rows.Verdict.TheVariants.{Admitted, Late}
-use Rattle.analysis.proofs.Filling.{front_long, front_at}
 use Rattle.analysis.proofs.Promises.{rows_bound, rows_attained, verdict_exact}
 use Rattle.analysis.proofs.judging.judge.Goals as goal
 
--- the verdict on the first n rows is that on all, since it looks no further
-front_verdict : (rows : List Row) (n : ℕ) → n ≤ length rows → (v : Verdict) → VerdictOf (length (take (n - 0) rows)) (take (n - 0) rows) v → VerdictOf n rows v
-front_verdict rows n few v given = go v (subst (λ m. VerdictOf m (take (n - 0) rows) v) (front_long rows n few) given)
+-- the verdict on the first rows is that on all, since it looks no further
+front_verdict : (front rest : List Row) (v : Verdict) → VerdictOf (length front) front v → VerdictOf (length front) (front ++ rest) v
+front_verdict front rest v given = go v given
   where
-    meets : (i : ℕ) → i < n → Meets (take (n - 0) rows) i → Meets rows i
-    meets i h m = subst (λ (row : Row). row.response ≤ row.deadline) (front_at rows n i no_row h) m
+    same : (i : ℕ) → i < length front → row_at front i ≡ row_at (front ++ rest) i
+    same i h = sym (get_or-append front rest no_row i h)
 
-    go : (w : Verdict) → VerdictOf n (take (n - 0) rows) w → VerdictOf n rows w
+    meets : (i : ℕ) → i < length front → Meets front i → Meets (front ++ rest) i
+    meets i h m = subst (λ (row : Row). row.response ≤ row.deadline) (same i h) m
+
+    go : (w : Verdict) → VerdictOf (length front) front w → VerdictOf (length front) (front ++ rest) w
     go Admitted all = λ i h. meets i h (all i h)
-    go (Late k) (here, late, before) = (here, subst (λ (row : Row). row.deadline < row.response) (front_at rows n k no_row here) late, λ i h. meets i (omega arith) (before i h))
+    go (Late k) (here, late, before) = (here, subst (λ (row : Row). row.deadline < row.response) (same k here) late, λ i h. meets i (omega arith) (before i h))
 
 pub returns : goal.returns
 returns g c =
@@ -32,17 +38,19 @@ returns g c =
     let met = g.met.P.Policy in
     let checked = table_checked t in
     let laws = lawful s o (met.total p s checked) (met.transitive p s checked) (met.earlier p s checked) (met.range p s checked) (met.rule p s checked) in
-    let after = c.fill_rows.new.rows in
-    let found = c.in-Some.ensures in
-    let enough : n ≤ length after = omega (arith, c.if-rows-count.false, c.fill_rows.auto.rows) in
-    let j : Judgement = record { busy_period = c.in-Some.busy_period; verdict = c.verdict.result } in
+    let front = c.fill_rows.new.rows in
+    let rest = drop n c.args.rows.now in
+    let after = front ++ rest in
+    let found : Busy s (Some c.in_ok-busy_period.busy_period) = subst (Busy s) c.in_ok-busy_period.ensures.ok_part c.busy_period.ensures in
+    let j : Judgement = record { busy_period = c.in_ok-busy_period.busy_period; verdict = c.verdict.result } in
+    let long : length front ≡ task_count s = omega (arith, c.fill_rows.auto.rows, length-take-le n c.args.rows.now c.if-rows-count.false, c.count-count.ensures) in
     let given : Given s o c.args.rows.now after j = record {
       enough = omega (arith, c.if-rows-count.false, c.count-count.ensures);
       short = found.0;
       busy = found.1;
-      rows = c.fill_rows.ensures.each;
-      rest = c.fill_rows.ensures.rest;
-      verdict = subst (λ m. VerdictOf m after c.verdict.result) c.count-count.ensures (front_verdict after n enough c.verdict.result c.verdict.ensures);
+      rows = λ i h. subst (λ row. RowOf s o j.busy_period i row) (sym (get_or-append front rest no_row i (omega (arith, long)))) (c.fill_rows.ensures i h);
+      rest = drop-append-drop n c.args.rows.now front (task_count s) (omega (arith, c.count-count.ensures)) (omega (arith, long, c.count-count.ensures));
+      verdict = subst (λ m. VerdictOf m after c.verdict.result) long (front_verdict front rest c.verdict.result c.verdict.ensures);
     } in
     record {
       judged = given;

@@ -1,12 +1,20 @@
-use Rattle.std.proofs.Common.{◌≤◌, sym, ap, subst, arith, rules}
+use Rattle.std.proofs.Common.{ℕ, ◌<◌, ◌≤◌, refl, ap, length-take-le, arith, rules}
 use Rattle.table.specs.Model.{content}
 use Rattle.table.proofs.Tables.{table_checked}
 use Rattle.table.specs.Sporadic.{Sporadic}
 use Rattle.policy.proofs.Lawfulness.{lawful}
-use Rattle.analysis.specs.Own.{SoundOwn}
-use Rattle.analysis.proofs.Filling.{few_tasks}
-use Rattle.analysis.proofs.OneRow.{own_record, own_is, own_sound, front_sound, front_fits, front_worst}
+use Rattle.table.specs.Rules.{task_count}
+use Rattle.analysis.specs.Lanes.{no_lane, lane_at}
+use Rattle.analysis.specs.Reaches.{LaneTo}
+use Rattle.analysis.proofs.Filling.{few_tasks, found_ranges, made_by}
+use Rattle.analysis.proofs.OneRow.{own_is, front_fits, front_worst}
+use Rattle.analysis.specs.declared.window.Own.{Own}
 use Rattle.analysis.proofs.judging.row_of.Goals as goal
+
+pub invariant_of-own : goal.invariant_of-own
+invariant_of-own g c =
+    let r = found_ranges c.args.table.now c.args.i c.in-Some.task c.in-Some.ensures in
+    record { cost_low = r.cost_low; cost_high = r.cost_high; period_low = r.period_low }
 
 pub slice_bounds-lanes-end : goal.slice_bounds-lanes-end
 slice_bounds-lanes-end g c =
@@ -17,26 +25,33 @@ worst_response-response-requires g c =
     let t = c.args.table.now in
     let s = content t in
     let p = c.args.policy.now in
+    let o = g.P.Policy.meaning p s in
     let met = g.met.P.Policy in
-    let laws = lawful s (g.P.Policy.meaning p s) (met.total p s (table_checked t)) (met.transitive p s (table_checked t)) (met.earlier p s (table_checked t)) (met.range p s (table_checked t)) (met.rule p s (table_checked t)) in
+    let laws = lawful s o (met.total p s (table_checked t)) (met.transitive p s (table_checked t)) (met.earlier p s (table_checked t)) (met.range p s (table_checked t)) (met.rule p s (table_checked t)) in
     let found = c.in-Some.ensures in
-    let own = own_is t c.args.i c.in-Some.task c.mode.result c.mode.ensures found.1 in
+    let items = c.from_fn-lanes.ensures.items in
+    let each : (j : ℕ) → j < task_count s → LaneTo s o c.args.i j (lane_at c.from_fn-lanes.result j) = λ j h. made_by _ (λ k l. k < task_count s → LaneTo s o c.args.i k l) no_lane _ c.from_fn-lanes.result (λ k l q call. search rules) 24 0 items.each j (omega arith) (omega (arith, few_tasks t)) h in
+    let r = found_ranges t c.args.i c.in-Some.task found in
+    let w : Own = record { mode = c.mode.result; cost = c.in-Some.task.cost; period = c.in-Some.task.period; cost_low = r.cost_low; cost_high = r.cost_high; period_low = r.period_low } in
+    let short = length-take-le c.count.result c.from_fn-lanes.result (omega (arith, few_tasks t, c.count.ensures, items.long)) in
     record {
-      sound = front_sound t (g.P.Policy.meaning p s) laws c.args.i found.0 c.lanes_of-lanes.result c.count.result c.lanes_of-lanes.ensures.room c.count.ensures c.lanes_of-lanes.ensures.each;
-      own = subst SoundOwn (sym own) (own_sound t c.args.i found.0);
+      few = omega (arith, few_tasks t, c.count.ensures, short);
       short = c.requires.short;
       some = c.requires.busy.from;
-      fits = front_fits t (g.P.Policy.meaning p s) laws c.args.i found.0 c.lanes_of-lanes.result c.count.result c.lanes_of-lanes.ensures.room c.count.ensures c.lanes_of-lanes.ensures.each c.args.busy c.requires.busy c.requires.short (own_record c.mode.result c.in-Some.task.cost c.in-Some.task.period) own;
+      fits = front_fits t o laws c.args.i found.0 c.from_fn-lanes.result c.count.result items.long c.count.ensures each c.args.busy c.requires.busy c.requires.short w (own_is t c.args.i c.in-Some.task w c.mode.ensures refl refl found.1);
     }
 
-pub returns-in-Some : goal.returns-in-Some
-returns-in-Some g c =
+pub returns : goal.returns
+returns g c =
     let t = c.args.table.now in
     let s = content t in
     let p = c.args.policy.now in
+    let o = g.P.Policy.meaning p s in
     let met = g.met.P.Policy in
-    let laws = lawful s (g.P.Policy.meaning p s) (met.total p s (table_checked t)) (met.transitive p s (table_checked t)) (met.earlier p s (table_checked t)) (met.range p s (table_checked t)) (met.rule p s (table_checked t)) in
+    let laws = lawful s o (met.total p s (table_checked t)) (met.transitive p s (table_checked t)) (met.earlier p s (table_checked t)) (met.range p s (table_checked t)) (met.rule p s (table_checked t)) in
     let found = c.in-Some.ensures in
-    let own = own_is t c.args.i c.in-Some.task c.mode.result c.mode.ensures found.1 in
-    let best = c.worst_response-response.ensures in
-    λ known. (front_worst t (g.P.Policy.meaning p s) laws c.args.i found.0 c.lanes_of-lanes.result c.count.result c.lanes_of-lanes.ensures.room c.count.ensures c.lanes_of-lanes.ensures.each c.args.busy c.requires.busy c.requires.short (own_record c.mode.result c.in-Some.task.cost c.in-Some.task.period) own c.worst_response-response.result.0 c.worst_response-response.result.1 best, ap (λ (x : Sporadic). x.deadline) found.1)
+    let items = c.from_fn-lanes.ensures.items in
+    let each : (j : ℕ) → j < task_count s → LaneTo s o c.args.i j (lane_at c.from_fn-lanes.result j) = λ j h. made_by _ (λ k l. k < task_count s → LaneTo s o c.args.i k l) no_lane _ c.from_fn-lanes.result (λ k l q call. search rules) 24 0 items.each j (omega arith) (omega (arith, few_tasks t)) h in
+    let r = found_ranges t c.args.i c.in-Some.task found in
+    let w : Own = record { mode = c.mode.result; cost = c.in-Some.task.cost; period = c.in-Some.task.period; cost_low = r.cost_low; cost_high = r.cost_high; period_low = r.period_low } in
+    λ known. (front_worst t o laws c.args.i found.0 c.from_fn-lanes.result c.count.result items.long c.count.ensures each c.args.busy c.requires.busy c.requires.short w (own_is t c.args.i c.in-Some.task w c.mode.ensures refl refl found.1) c.worst_response-response.result.0 c.worst_response-response.result.1 c.worst_response-response.ensures, ap (λ (x : Sporadic). x.deadline) found.1)

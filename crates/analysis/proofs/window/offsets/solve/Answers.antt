@@ -1,15 +1,14 @@
-use Rattle.std.proofs.Common.{◌≡◌, ℕ, ◌+◌, ◌<◌, ◌≤◌, List, map, sym, subst, ap₂, arith}
-use Rattle.analysis.specs.Lanes.{limited, lanes_work, Sound}
+use Rattle.std.proofs.Common.{◌≡◌, ℕ, ◌+◌, ◌<◌, ◌≤◌, List, map, ap₂, arith}
+use Rattle.analysis.specs.Lanes.{limited, lanes_work}
 use Rattle.analysis.specs.Own.{window_work, own_work}
 use Rattle.analysis.specs.declared.lanes.Lane.{Lane}
 use Rattle.analysis.specs.declared.window.Own.{Own}
-use Rattle.analysis.proofs.Windows.{limited_sound, solved_window, restart_low}
+use Rattle.analysis.proofs.Windows.{solved_window, restart_low}
 use Rattle.analysis.proofs.window.offsets.solve.Goals as goal
 
 pub climb-requires : goal.climb-requires
 climb-requires c = record {
-  sound = subst Sound (sym c.set_limits.ensures) (limited_sound c.args.a c.args.lanes.now c.requires.sound);
-  short = c.requires.short;
+  few = omega (arith, c.set_limits.auto.lanes, c.requires.few);
   light = c.own_work-work.ensures.light;
 }
 
@@ -31,7 +30,7 @@ returns-in-Some c =
     record {
       lanes = c.set_limits.ensures;
       work = c.own_work-work.ensures.value;
-      solved = solved_window w ls a c.requires.sound c.requires.own at (omega (arith, begin.0, climbed.0)) (omega (arith, same at, climbed.2)) first;
+      solved = solved_window w ls a at (omega (arith, begin.0, climbed.0)) (omega (arith, same at, climbed.2)) first;
       inside = climbed.1;
       low = first;
     }
