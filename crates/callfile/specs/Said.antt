@@ -1,5 +1,5 @@
 -- The calls that a text says, and the steps that hold them.
-use Rattle.std.specs.Prelude.{ℕ, ◌-◌, true, false, cond, ◌&&◌, List, [], ◌∷◌, ◌++◌, Some, None, Option, ◌==◌, nat_le}
+use Rattle.std.specs.Prelude.{ℕ, ◌-◌, true, false, cond, ◌&&◌, List, [], ◌∷◌, ◌++◌, Some, None, Ok, Option, ◌==◌, nat_le}
 use Rattle.std.specs.Option.{option_to_list}
 use Rattle.dispatch.specs.declared.replies.Event.{Event}
 use Rattle.dispatch.specs.declared.replies.Event.TheVariants.{Release, Tick, Look}
@@ -21,7 +21,7 @@ calls_said (b ∷ bs) = option_to_list (call_said b) ++ calls_said bs
 
 -- a call before it is made: the answer beside it says nothing yet
 abbrev pub unmade : Event → Step
-unmade call = record { call = call; answer = Ticked Idle }
+unmade call = record { call = call; answer = Ok (Ticked Idle) }
 
 -- the calls stand in the first steps, as many as there are steps; further steps are as they were
 unfoldable pub laid_over : List Event → List Step → List Step

@@ -33,7 +33,7 @@ pub fn read_calls(text: &[u8], steps: &mut [Step]) -> usize
     for byte in text {
         if let Some(call) = call_of(*byte) {
             if count < steps.len() {
-                let answer = Reply::Ticked { what: Ticked::Idle };
+                let answer = Ok(Reply::Ticked { what: Ticked::Idle });
                 steps[count] = Step { call, answer };
                 count += 1;
             }

@@ -23,11 +23,11 @@ ticked_told ticked.Idle = machine.Idle
 ticked_told (ticked.Ran j r) = machine.Ran j r
 ticked_told (ticked.Finished j r response) = machine.Finished j r response
 
-abbrev pub reply_told : Reply → machine.Answer
-reply_told (reply.Refused why) = machine.Refused why
-reply_told (reply.Released time) = machine.Released time
-reply_told (reply.Ticked what) = ticked_told what
-reply_told (reply.Looked counts) = machine.Looked (counts_told counts)
+abbrev pub reply_told : Result Reply Refusal → machine.Answer
+reply_told (Ok (reply.Released time)) = machine.Released time
+reply_told (Ok (reply.Ticked what)) = ticked_told what
+reply_told (Ok (reply.Looked counts)) = machine.Looked (counts_told counts)
+reply_told (Err why) = machine.Refused why
 
 -- what each of the three calls returns, as an answer
 abbrev pub release_told : Result ℕ Refusal → machine.Answer

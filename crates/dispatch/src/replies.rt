@@ -45,11 +45,9 @@ pub enum Event {
     Look { task: usize },
 }
 
-/// The answer to a call.
+/// The answer to a call that is not refused.
 #[derive(Clone, Copy, Debug, PartialEq, Eq)]
 pub enum Reply {
-    /// The call changed nothing.
-    Refused { why: Refusal },
     /// The time of the release.
     Released { time: u32 },
     /// What the tick did.
@@ -63,6 +61,6 @@ pub enum Reply {
 pub struct Step {
     /// What is asked.
     pub call: Event,
-    /// What was answered; anything before the call is made.
-    pub answer: Reply,
+    /// What was answered, or the refusal of a call that changed nothing; anything before the call is made.
+    pub answer: Result<Reply, Refusal>,
 }

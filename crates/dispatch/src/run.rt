@@ -9,12 +9,12 @@ ghost use Rattle.dispatch.specs.Fronts.{Fronted};
 ghost use Rattle.dispatch.specs.Leading.{Leading, Leads, Picked, better_of};
 ghost use Rattle.dispatch.specs.Lines.{board};
 ghost use Rattle.dispatch.specs.Oldest.{Oldest};
-ghost use Rattle.dispatch.specs.Replies.{release_told, tick_told, look_told};
+ghost use Rattle.dispatch.specs.Replies.{call_of, reply_told, release_told, tick_told, look_told};
 ghost use Rattle.dispatch.specs.Represents.{Answered, Answers};
 ghost use Rattle.dispatch.specs.Summaries.{Pending, ends_now};
 
 use crate::front::Front;
-use crate::replies::{Counts, Ticked};
+use crate::replies::{Counts, Event, Reply, Ticked};
 use crate::stage::{Head, Stage};
 use crate::station::Station;
 use policy::{Job, Policy};
@@ -27,16 +27,9 @@ fn better<P: Policy>(policy: &P, table: &Table, best: Head, task: usize, first: 
     let Some(release) = first else {
         return best;
     };
-    let mine = Job {
-        task,
-        release: i64::from(release),
-    };
-    let other = Job {
-        task: best.task,
-        release: i64::from(best.release),
-    };
-    if policy.ahead(table, mine, other) {
-        Head { task, release }
+    let mine = Head { task, release };
+    if policy.ahead(table, Job::from(mine), Job::from(best)) {
+        mine
     } else {
         best
     }
@@ -46,9 +39,7 @@ fn better<P: Policy>(policy: &P, table: &Table, best: Head, task: usize, first: 
 fn leader<P: Policy>(policy: &P, station: &Station) -> Option<Head>
     ensures { Leading (ahead_answer (content station.now.table) (P.meaning policy.now (content station.now.table))) (board station.now.lines) (task_count (content station.now.table)) result }
 {
-    let Some(first) = station.first_waiting() else {
-        return None;
-    };
+    let first = station.first_waiting()?;
     let table = station.table();
     let mut best = first;
     let next = first.task + 1;
@@ -62,10 +53,7 @@ fn leader<P: Policy>(policy: &P, station: &Station) -> Option<Head>
 fn leading_task<P: Policy>(policy: &P, station: &Station) -> Option<usize>
     ensures { Leads (ahead_answer (content station.now.table) (P.meaning policy.now (content station.now.table))) (board station.now.lines) (task_count (content station.now.table)) result }
 {
-    match leader(policy, station) {
-        Some(head) => Some(head.task),
-        None => None,
-    }
+    leader(policy, station).map(|head| head.task)
 }
 
 // The task whose first job is to run.
@@ -74,8 +62,7 @@ fn pick<P: Policy>(policy: &P, station: &Station) -> Option<usize>
 {
     match (station.table().mode(), station.stage()) {
         (Mode::NonPreemptive, Stage::Begun { task }) => Some(task),
-        (Mode::NonPreemptive, Stage::Idle) => leading_task(policy, station),
-        (Mode::Preemptive, _) => leading_task(policy, station),
+        (Mode::NonPreemptive, Stage::Idle) | (Mode::Preemptive, _) => leading_task(policy, station),
     }
 }
 
@@ -167,6 +154,21 @@ impl<P: Policy> Run<P> {
         ensures { Oldest (P.meaning self.now.policy (content self.now.station.table)) self.now.station task result }
     {
         self.station.oldest(task)
+    }
+
+    /// Makes this call: the same as `release`, `tick` or `look`.
+    /// Refused, with the run as it was, where that method refuses it.
+    pub fn call(&mut self, call: Event) -> Result<Reply, Refusal>
+        ensures policy { self.new.policy ≡ self.old.policy }
+        ensures table { self.new.station.table ≡ self.old.station.table }
+        ensures refused { OnErr result (self.new ≡ self.old) }
+        ensures answered { Answers (P.meaning self.old.policy (content self.old.station.table)) self.old.station self.new.station (call_of call) (reply_told result) }
+    {
+        match call {
+            Event::Release { task } => self.release(task).map(|time| Reply::Released { time }),
+            Event::Tick { done } => self.tick(done).map(|what| Reply::Ticked { what }),
+            Event::Look { task } => self.look(task).map(|counts| Reply::Looked { counts }),
+        }
     }
 }
 

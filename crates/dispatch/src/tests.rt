@@ -4,12 +4,12 @@ use policy::Fixed;
 use std::test::Fail;
 use table::{Mode, Name, PolicyCode, Refusal, Table, Task};
 
-// A short task of rank 1 and a long one of rank 2.
-fn two(mode: Mode) -> Option<Table> {
+// A short task of rank 1 with this period and a long one of rank 2.
+pub(crate) fn two(policy: PolicyCode, mode: Mode, period: u32) -> Result<Table, Fail> {
     let short = Task {
         cost: 1,
-        period: 4,
-        deadline: 4,
+        period,
+        deadline: period,
         rank: 1,
         name: Name::single(),
     };
@@ -20,65 +20,46 @@ fn two(mode: Mode) -> Option<Table> {
         rank: 2,
         name: Name::single(),
     };
-    Table::new(PolicyCode::Fixed, mode, 0, &[short, long])
+    Table::new(policy, mode, 0, &[short, long]).ok_or_else(|| Fail::new("no table"))
 }
 
-// The time of the release, or 100 and the number of the refusal.
-fn release(run: &mut Run<Fixed>, task: usize) -> u32 {
-    match run.release(task) {
-        Ok(time) => time,
-        Err(Refusal::NoTaskToRun { task: _ }) => 112,
-        Err(Refusal::TooSoon { task: _ }) => 113,
-        Err(Refusal::QueueFull { task: _ }) => 114,
-        Err(_) => 100,
-    }
+// The tick ran this job and did not finish it.
+pub(crate) fn ran(task: usize, release: u32) -> Result<Ticked, Refusal> {
+    Ok(Ticked::Ran { task, release })
 }
 
-// The task that ran, with its response where it finished; 9 where none ran.
-fn tick(run: &mut Run<Fixed>) -> (usize, u32) {
-    match run.tick(false) {
-        Ok(Ticked::Idle) => (9, 0),
-        Ok(Ticked::Ran { task, release: _ }) => (task, 0),
-        Ok(
-            Ticked::Finished {
-                task,
-                release: _,
-                response,
-            },
-        ) => (task, response),
-        Err(_) => (99, 0),
-    }
+// The tick finished this job.
+pub(crate) fn finished(task: usize, release: u32, response: u32) -> Result<Ticked, Refusal> {
+    Ok(Ticked::Finished {
+        task,
+        release,
+        response,
+    })
 }
 
 #[test]
 fn displaced(rt: HostRuntime) -> Result<(), Fail> {
-    let Some(table) = two(Mode::Preemptive) else {
-        return Err(Fail::new("no table"));
-    };
-    let mut run = Run::new(Fixed, &table);
-    assert_eq!(rt; tick(&mut run), (9, 0));
-    assert_eq!(rt; release(&mut run, 1), 1);
-    assert_eq!(rt; tick(&mut run), (1, 0));
-    assert_eq!(rt; release(&mut run, 0), 2);
-    assert_eq!(rt; tick(&mut run), (0, 1));
-    assert_eq!(rt; tick(&mut run), (1, 0));
-    assert_eq!(rt; tick(&mut run), (1, 4));
+    let mut run = Run::new(Fixed, &two(PolicyCode::Fixed, Mode::Preemptive, 4)?);
+    assert_eq!(rt; run.tick(false), Ok(Ticked::Idle));
+    assert_eq!(rt; run.release(1), Ok(1));
+    assert_eq!(rt; run.tick(false), ran(1, 1));
+    assert_eq!(rt; run.release(0), Ok(2));
+    assert_eq!(rt; run.tick(false), finished(0, 2, 1));
+    assert_eq!(rt; run.tick(false), ran(1, 1));
+    assert_eq!(rt; run.tick(false), finished(1, 1, 4));
     Ok(())
 }
 
 #[test]
 fn held(rt: HostRuntime) -> Result<(), Fail> {
-    let Some(table) = two(Mode::NonPreemptive) else {
-        return Err(Fail::new("no table"));
-    };
-    let mut run = Run::new(Fixed, &table);
-    assert_eq!(rt; release(&mut run, 1), 0);
-    assert_eq!(rt; tick(&mut run), (1, 0));
-    assert_eq!(rt; release(&mut run, 0), 1);
-    assert_eq!(rt; release(&mut run, 0), 113);
-    assert_eq!(rt; release(&mut run, 2), 112);
-    assert_eq!(rt; tick(&mut run), (1, 0));
-    assert_eq!(rt; tick(&mut run), (1, 3));
-    assert_eq!(rt; tick(&mut run), (0, 3));
+    let mut run = Run::new(Fixed, &two(PolicyCode::Fixed, Mode::NonPreemptive, 4)?);
+    assert_eq!(rt; run.release(1), Ok(0));
+    assert_eq!(rt; run.tick(false), ran(1, 0));
+    assert_eq!(rt; run.release(0), Ok(1));
+    assert_eq!(rt; run.release(0), Err(Refusal::TooSoon { task: 0 }));
+    assert_eq!(rt; run.release(2), Err(Refusal::NoTaskToRun { task: 2 }));
+    assert_eq!(rt; run.tick(false), ran(1, 0));
+    assert_eq!(rt; run.tick(false), finished(1, 0, 3));
+    assert_eq!(rt; run.tick(false), finished(0, 1, 3));
     Ok(())
 }

@@ -41,7 +41,7 @@ fn main(rt: HostRuntime) -> io::Result<()> {
     // As many steps as there are bytes, so that every call finds one.
     let unmade = Step {
         call: Event::Tick { done: false },
-        answer: Reply::Ticked { what: Ticked::Idle },
+        answer: Ok(Reply::Ticked { what: Ticked::Idle }),
     };
     let mut places = vec![in rt.alloc(); unmade; text.len()]?;
     let count = read_calls(&text, &mut places);

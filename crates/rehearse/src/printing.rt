@@ -119,15 +119,15 @@ fn print_counts(rt: &HostRuntime, counts: Counts) -> io::Result<()> {
     )
 }
 
-fn print_answer(rt: &HostRuntime, answer: Reply) -> io::Result<()> {
+fn print_answer(rt: &HostRuntime, answer: Result<Reply, Refusal>) -> io::Result<()> {
     match answer {
-        Reply::Refused { why } => {
+        Ok(Reply::Released { time }) => println!(rt; "at {time}"),
+        Ok(Reply::Ticked { what }) => print_tick(rt, what),
+        Ok(Reply::Looked { counts }) => print_counts(rt, counts),
+        Err(why) => {
             let number = why.number();
             println!(rt; "refused {number}")
         }
-        Reply::Released { time } => println!(rt; "at {time}"),
-        Reply::Ticked { what } => print_tick(rt, what),
-        Reply::Looked { counts } => print_counts(rt, counts),
     }
 }
 

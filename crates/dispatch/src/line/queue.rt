@@ -18,7 +18,7 @@ fn missed_by(task: Task, response: u32) -> u32
     ensures value { result ≡ (if ltb task.deadline response then 1 else 0) }
     ensures small { result ≤ 1 }
 {
-    if task.deadline < response { 1 } else { 0 }
+    u32::from(task.deadline < response)
 }
 
 impl Line {
@@ -42,11 +42,7 @@ impl Line {
         ensures value { result ≡ first_release (line_summary self).waiting }
         ensures some { OnSome result (1 ≤ self.len) }
     {
-        if self.len == 0 {
-            None
-        } else {
-            Some(self.releases[0])
-        }
+        self.releases[..self.len].first().copied()
     }
 
     // Whether a release at this time comes too soon.
@@ -63,7 +59,7 @@ impl Line {
     }
 
     // The line after a release at this time.
-    pub(crate) fn push(self, time: u32, task: Task) -> Line
+    pub(crate) fn push(mut self, time: u32, task: Task) -> Line
         requires room { self.len < 8 }
         requires free { self.free ≤ time }
         requires clock { time ≤ 4000000000 }
@@ -71,17 +67,10 @@ impl Line {
         requires high { task.period ≤ 65535 }
         ensures { line_summary result ≡ joined (sporadic task) time (line_summary self) }
     {
-        let mut releases = self.releases;
-        releases[self.len] = time;
-        Line {
-            releases,
-            len: self.len + 1,
-            free: time + task.period,
-            finished: self.finished,
-            missed: self.missed,
-            longest: self.longest,
-            ran: self.ran,
-        }
+        self.releases[self.len] = time;
+        self.len += 1;
+        self.free = time + task.period;
+        self
     }
 
     // Whether the oldest waiting job finishes with its next tick.
@@ -93,40 +82,30 @@ impl Line {
     }
 
     // The line after a tick that does not finish its oldest job.
-    pub(crate) fn go_on(self) -> Line
+    pub(crate) fn go_on(mut self) -> Line
         requires some { 1 ≤ self.len }
         requires short { self.ran < 4096 }
         ensures { (p : Pending) (ps : List Pending) (t : Sporadic) (later : ℕ) → (line_summary self).waiting ≡ p ∷ ps → line_summary result ≡ moved t false later p ps (line_summary self) }
     {
-        let releases = self.releases;
-        Line {
-            releases,
-            len: self.len,
-            free: self.free,
-            finished: self.finished,
-            missed: self.missed,
-            longest: self.longest,
-            ran: self.ran + 1,
-        }
+        self.ran += 1;
+        self
     }
 
     // The line after the tick that finishes its oldest job and brings the time to `later`.
-    pub(crate) fn finish(self, later: u32, task: Task) -> Line
+    pub(crate) fn finish(mut self, later: u32, task: Task) -> Line
         requires some { 1 ≤ self.len }
         ensures { (p : Pending) (ps : List Pending) → (line_summary self).waiting ≡ p ∷ ps → line_summary result ≡ moved (sporadic task) true later p ps (line_summary self) }
     {
         let [a, b, c, d, e, f, g, h] = self.releases;
         let response = later.saturating_sub(a);
         let late = missed_by(task, response);
-        Line {
-            releases: [b, c, d, e, f, g, h, 0],
-            len: self.len - 1,
-            free: self.free,
-            finished: self.finished + 1,
-            missed: self.missed + late,
-            longest: self.longest.max(response),
-            ran: 0,
-        }
+        self.releases = [b, c, d, e, f, g, h, 0];
+        self.len -= 1;
+        self.finished += 1;
+        self.missed += late;
+        self.longest = self.longest.max(response);
+        self.ran = 0;
+        self
     }
 
     pub(crate) fn counts(self) -> Counts

@@ -21,11 +21,10 @@ impl Station {
         ensures table { result.table ≡ table.now }
         ensures answered { (o : Order) → Answered o result [] }
     {
-        let lines = [Line::new(); 24];
         Station {
             table: *table,
             time: 0,
-            lines,
+            lines: [Line::new(); 24],
             stage: Stage::Idle,
         }
     }

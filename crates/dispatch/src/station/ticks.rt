@@ -41,8 +41,7 @@ impl Station {
             (Stage::Begun { task }, Mode::NonPreemptive, Outcome::Went { task: next }) => *task =
                 next,
             (stage, Mode::NonPreemptive, Outcome::Went { task }) => *stage = Stage::Begun { task },
-            (stage, Mode::NonPreemptive, Outcome::Idled) => *stage = Stage::Idle,
-            (stage, Mode::NonPreemptive, Outcome::Ended) => *stage = Stage::Idle,
+            (stage, Mode::NonPreemptive, Outcome::Idled | Outcome::Ended) => *stage = Stage::Idle,
             (_, Mode::Preemptive, _) => {}
         }
     }

@@ -11,7 +11,7 @@ use Rattle.dispatch.proofs.Stations.{in_room}
 use Rattle.dispatch.proofs.run.leader.Goals as goal
 
 pub overflow_add-next : goal.overflow_add-next
-overflow_add-next g c = let few : c.in-Some.first.task < 24 = in_room c.args.station.now c.in-Some.first.task c.in-Some.ensures.0 in search rules
+overflow_add-next g c = let few : c.in_ok-first.first.task < 24 = in_room c.args.station.now c.in_ok-first.first.task c.in_ok-first.ensures.0 in search rules
 
 -- the first that waits leads all up to its task
 pub loop-task-init : goal.loop-task-init
@@ -23,8 +23,8 @@ loop-task-init g c =
     let met = g.met.P.Policy in
     let checked = table_checked d.table in
     let laws = lawful s o (met.total p s checked) (met.transitive p s checked) (met.earlier p s checked) (met.range p s checked) (met.rule p s checked) in
-    let first = c.in-Some.first in
-    let found = c.in-Some.ensures in
+    let first = c.in_ok-first.first in
+    let found = c.in_ok-first.ensures in
     subst (λ f. Leading (ahead_answer s o) (board d.lines) (first.task + 1) (better_of (ahead_answer s o) None first.task f)) found.1 (leading_more s o laws (board d.lines) first.task None found.2)
 
 pub loop-task-preserved : goal.loop-task-preserved
@@ -48,5 +48,5 @@ returns g c =
     let s = content d.table in
     let o = g.P.Policy.meaning p s in
     let count : c.count-task-end.result ≡ task_count s = c.count-task-end.ensures ∙ ap (λ t. task_count (content t)) c.table-table.ensures in
-    let all : c.loop-task.task ≡ task_count s = omega (arith, c.in-Some.ensures.0) in
+    let all : c.loop-task.task ≡ task_count s = omega (arith, c.in_ok-first.ensures.0) in
     subst (λ n. Leading (ahead_answer s o) (board d.lines) n (Some c.loop-task.best)) all c.loop-task.invariant

@@ -8,5 +8,5 @@ use Rattle.dispatch.proofs.station.Station.new.Goals as goal
 pub returns : goal.returns
 unfolding play summed
 returns c =
-    let none = boards_none 24 c.new-lines.result c.new-lines.ensures in
+    let none = boards_none 24 c.new.result c.new.ensures in
     record { table = refl; answered = λ o. record { time = refl; lines = λ j h. none j; stage = λ m j h. ap (λ (u : Summary). ran_first u.waiting) (none j) } }
