@@ -1,4 +1,4 @@
-use Rattle.std.proofs.Common.{Ok}
+use Rattle.std.proofs.Common.{Ok, rules}
 use Rattle.table.specs.Model.{content}
 use Rattle.table.proofs.Tables.{table_checked}
 use Rattle.policy.proofs.Lawfulness.{lawful}
@@ -15,7 +15,7 @@ returns g c =
     let checked = table_checked c.args.table.now in
     let laws = lawful s o (met.total p s checked) (met.transitive p s checked) (met.earlier p s checked) (met.range p s checked) (met.rule p s checked) in
     let told = c.in_ok-judgement.ensures in
-    let replayed : Replayed s o c.args.steps.now c.replay.new.steps (Ok c.in_ok-judgement.judgement) = (c.replay.ensures.calls, c.replay.ensures.answers) in
+    let replayed : Replayed s o c.args.steps.now c.replay.new.steps (Ok c.in_ok-judgement.judgement) = search rules in
     let kept = kept_within s o checked laws c.args.rows.now c.judge.new.rows c.args.steps.now c.replay.new.steps (Ok c.in_ok-judgement.judgement) told.judged replayed in
     record {
       judged = told.judged;
