@@ -29,15 +29,13 @@ pub fn read_calls(text: &[u8], steps: &mut [Step]) -> usize
     ensures steps { steps.new ≡ laid_over (calls_said text.now) steps.old }
     ensures count { result ≡ min (length (calls_said text.now)) (length steps.old) }
 {
-    let mut count = 0;
-    for byte in text {
-        if let Some(call) = call_of(*byte) {
-            if count < steps.len() {
-                let answer = Ok(Reply::Ticked { what: Ticked::Idle });
-                steps[count] = Step { call, answer };
-                count += 1;
-            }
-        }
+    let mut calls = text.iter().filter_map(|byte| call_of(*byte));
+    for (count, step) in steps.iter_mut().enumerate() {
+        let Some(call) = calls.next() else {
+            return count;
+        };
+        let answer = Ok(Reply::Ticked { what: Ticked::Idle });
+        *step = Step { call, answer };
     }
-    count
+    steps.len()
 }

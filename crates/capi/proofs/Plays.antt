@@ -5,13 +5,13 @@ use Rattle.table.specs.Rules.{TaskSet}
 use Rattle.table.specs.Model.{content}
 use Rattle.table.specs.declared.checked.Table.{Table}
 use Rattle.policy.specs.Order.{Order}
-use Rattle.theory.specs.Machine.{answer, answers, play, start}
-use Rattle.dispatch.specs.Represents.{Answered}
+use Rattle.theory.specs.Machine.{Call, Answer, answer, answers, play, start}
+use Rattle.dispatch.specs.Represents.{Answered, Answers}
 use Rattle.dispatch.specs.declared.station.Station.{Station}
 use Rattle.dispatch.proofs.Queues.{map_snoc}
 use Rattle.dispatch.proofs.Replays.{answers_snoc}
 use Rattle.capi.specs.Played.{calls_in, calls_of, replies_in, Played}
-use Rattle.capi.specs.Steps.{call_of, reply_of, Told}
+use Rattle.capi.specs.Steps.{call_of, reply_of}
 use Rattle.capi.specs.declared.steps.Step.{Step}
 
 -- the first n steps are answered, the rest is as it was
@@ -56,12 +56,12 @@ module _ (s : TaskSet) (o : Order) (before : List Step) where
       record { calls = sym (ap calls_in a) ∙ so_far.calls ∙ ap calls_in b; replies = sym (ap replies_in a) ∙ so_far.told ∙ ap (λ xs. map reply_of (answers s o start (calls_of xs))) b }
 
 -- one step of a station that has answered the calls so far; q is any default
-pub play_step : (t : Table) (o : Order) (before after : List Step) (n : ℕ) (d e : Station) (x q : Step) → n < length before → length after ≡ length before → d.table ≡ t → x.call ≡ (get_or after n q).call
-    → Told o d e (call_of x.call) x.reply → Answered o d (calls_of (take n before)) → SoFar (content t) o before after n
+pub play_step : (t : Table) (o : Order) (before after : List Step) (n : ℕ) (d e : Station) (x q : Step) (c : Call) (given : Answer) → n < length before → length after ≡ length before → d.table ≡ t → x.call ≡ (get_or after n q).call
+    → c ≡ call_of x.call → x.reply ≡ reply_of given → Answers o d e c given → Answered o d (calls_of (take n before)) → SoFar (content t) o before after n
     → Answered o e (calls_of (take (n + 1) before)) × SoFar (content t) o before (set after n x) (n + 1)
-play_step t o before after n d e x q here long same read makes answered so_far =
+play_step t o before after n d e x q c given here long same read asked told makes answered so_far =
     let r = makes (calls_of (take n before)) answered in
     let known : x.call ≡ (get_or before n q).call = read ∙ ap (λ (p : Step). p.call) (next_same (content t) o before after n here long so_far q) in (
-      subst (Answered o e) (sym (calls_more (content t) o before after n here long so_far x q known)) r.0,
-      played_more (content t) o before after n here long so_far x q known (r.1 ∙ ap (λ u. reply_of (answer (content u) o (play (content u) o start (calls_of (take n before))) (call_of x.call))) same),
+      subst (Answered o e) (ap (λ u. calls_of (take n before) ++ (u ∷ [])) asked ∙ sym (calls_more (content t) o before after n here long so_far x q known)) r.0,
+      played_more (content t) o before after n here long so_far x q known (told ∙ ap reply_of (r.1 ∙ (λ k. answer (content (same k)) o (play (content (same k)) o start (calls_of (take n before))) (asked k)))),
     )

@@ -1,12 +1,8 @@
 -- Calls and answers of the reference machine as plain numbers.
-use Rattle.std.specs.Prelude.{◌≡◌, ℕ, true, false, cond, List, [], ◌∷◌, ◌++◌, ◌==◌}
-use Rattle.table.specs.Model.{content}
+use Rattle.std.specs.Prelude.{ℕ, true, false, cond, ◌==◌}
 use Rattle.table.specs.Refusals.{refusal_number}
 use Rattle.table.specs.declared.refusal.Refusal.{Refusal}
-use Rattle.policy.specs.Order.{Order}
 use Rattle.theory.specs.Machine as machine
-use Rattle.dispatch.specs.Represents.{Answered}
-use Rattle.dispatch.specs.declared.station.Station.{Station}
 use Rattle.capi.specs.Outcomes.{detail_of}
 use Rattle.capi.specs.declared.steps.Call.{Call}
 use Rattle.capi.specs.declared.steps.Reply.{Reply}
@@ -28,7 +24,3 @@ reply_of machine.Idle = reply 2 0 0 0
 reply_of (machine.Ran j r) = reply 3 j r 0
 reply_of (machine.Finished j r response) = reply 4 j r response
 reply_of (machine.Looked n) = record { kind = 5; first = n.accepted; second = n.finished; third = n.waiting; fourth = n.missed; fifth = n.longest }
-
--- from the station d to e, a call is answered by the reference machine's answer
-abbrev pub Told : Order → Station → Station → machine.Call → Reply → Type 0
-Told o d e c r = (calls : List machine.Call) → Answered o d calls → Answered o e (calls ++ (c ∷ [])) × (r ≡ reply_of (machine.answer (content d.table) o (machine.play (content d.table) o machine.start calls) c))

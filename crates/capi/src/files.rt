@@ -2,8 +2,8 @@
 ghost use Rattle.std.specs.Prelude.{◌≡◌};
 ghost use Rattle.capi.specs.Files.{ReportTold, JudgedFile, FindingTold};
 
-use crate::finding::{Finding, finding_of};
-use crate::outcome::{Outcome, outcome_of};
+use crate::finding::Finding;
+use crate::outcome::Outcome;
 use analysis::{Judgement, Row};
 use planning::{judge_table, plan};
 use table::{MOST_TASKS, Refusal, Table};
@@ -20,7 +20,7 @@ pub extern "C" fn station_plan(file: &[u8], out: &mut [u8]) -> Outcome
         offset: 0,
         deadline: 0,
     }; MOST_TASKS];
-    outcome_of(plan(file, &mut rows, out))
+    Outcome::from(plan(file, &mut rows, out))
 }
 
 // The judgement of a table file.
@@ -38,5 +38,5 @@ fn judge_file(file: &[u8], rows: &mut [Row]) -> Result<Judgement, Refusal>
 pub extern "C" fn station_judge(file: &[u8], rows: &mut [Row]) -> Finding
     ensures { FindingTold file.now rows.old rows.new result }
 {
-    finding_of(judge_file(file, rows))
+    Finding::from(judge_file(file, rows))
 }

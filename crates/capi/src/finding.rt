@@ -6,7 +6,7 @@ use crate::outcome::detail;
 use analysis::{Judgement, Verdict};
 use table::Refusal;
 
-/// What a judgement answers.
+/// What a judgement answers; plain numbers, as C takes them.
 #[repr(C)]
 #[derive(Clone, Copy)]
 pub struct Finding {
@@ -20,34 +20,30 @@ pub struct Finding {
     pub task: usize,
 }
 
-fn judged_as(busy: u32, late: bool, task: usize) -> Finding
-    ensures refusal { result.refusal ≡ 0 }
-    ensures late { result.late ≡ late }
-    ensures number { result.number ≡ busy }
-    ensures task { result.task ≡ task }
-{
-    Finding {
-        refusal: 0,
-        late,
-        number: busy as usize,
-        task,
-    }
-}
+/// A judgement as C has it.
+impl From<Result<Judgement, Refusal>> for Finding {
+    ghost from_gives = { λ given finding. finding ≡ finding_of given };
 
-// A judgement as C has it.
-pub(crate) fn finding_of(given: Result<Judgement, Refusal>) -> Finding
-    ensures { result ≡ finding_of given }
-{
-    match given {
-        Ok(judgement) => match judgement.verdict {
-            Verdict::Admitted => judged_as(judgement.busy_period, false, 0),
-            Verdict::Late { task } => judged_as(judgement.busy_period, true, task),
-        },
-        Err(why) => Finding {
-            refusal: u32::from(why.number()),
-            late: false,
-            number: detail(why),
-            task: 0,
-        },
+    fn from(given: Result<Judgement, Refusal>) -> Finding {
+        match given {
+            Ok(judgement) => {
+                let (late, task) = match judgement.verdict {
+                    Verdict::Admitted => (false, 0),
+                    Verdict::Late { task } => (true, task),
+                };
+                Finding {
+                    refusal: 0,
+                    late,
+                    number: judgement.busy_period as usize,
+                    task,
+                }
+            }
+            Err(why) => Finding {
+                refusal: u32::from(why.number()),
+                late: false,
+                number: detail(why),
+                task: 0,
+            },
+        }
     }
 }

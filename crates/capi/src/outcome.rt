@@ -4,7 +4,7 @@ ghost use Rattle.capi.specs.Outcomes.{detail_of, outcome_of};
 
 use table::Refusal;
 
-/// What a call answers.
+/// What a call answers; plain numbers, as C takes them.
 #[repr(C)]
 #[derive(Clone, Copy)]
 pub struct Outcome {
@@ -19,34 +19,33 @@ pub(crate) fn detail(refusal: Refusal) -> usize
     ensures { result ≡ detail_of refusal }
 {
     match refusal {
-        Refusal::Ended { place } => place,
-        Refusal::WrongMark { place } => place,
-        Refusal::HeaderRange { place } => place,
-        Refusal::TaskRange { place } => place,
-        Refusal::RankTaken { place } => place,
-        Refusal::NameByte { place } => place,
-        Refusal::Trailing { place } => place,
-        Refusal::FewRows => 0,
-        Refusal::ShortOutput => 0,
-        Refusal::NoBusyPeriod => 0,
+        Refusal::Ended { place }
+        | Refusal::WrongMark { place }
+        | Refusal::HeaderRange { place }
+        | Refusal::TaskRange { place }
+        | Refusal::RankTaken { place }
+        | Refusal::NameByte { place }
+        | Refusal::Trailing { place } => place,
         Refusal::RankUnfilled { rank } => rank,
-        Refusal::NoTaskToJudge { task } => task,
-        Refusal::NoTaskToRun { task } => task,
-        Refusal::TooSoon { task } => task,
-        Refusal::QueueFull { task } => task,
-        Refusal::TimeOver => 0,
+        Refusal::NoTaskToJudge { task }
+        | Refusal::NoTaskToRun { task }
+        | Refusal::TooSoon { task }
+        | Refusal::QueueFull { task } => task,
+        Refusal::FewRows | Refusal::ShortOutput | Refusal::NoBusyPeriod | Refusal::TimeOver => 0,
     }
 }
 
-// A result as C has it.
-pub(crate) fn outcome_of(given: Result<usize, Refusal>) -> Outcome
-    ensures { result ≡ outcome_of given }
-{
-    match given {
-        Ok(number) => Outcome { refusal: 0, number },
-        Err(why) => Outcome {
-            refusal: u32::from(why.number()),
-            number: detail(why),
-        },
+/// A result as C has it.
+impl From<Result<usize, Refusal>> for Outcome {
+    ghost from_gives = { λ given outcome. outcome ≡ outcome_of given };
+
+    fn from(given: Result<usize, Refusal>) -> Outcome {
+        match given {
+            Ok(number) => Outcome { refusal: 0, number },
+            Err(why) => Outcome {
+                refusal: u32::from(why.number()),
+                number: detail(why),
+            },
+        }
     }
 }

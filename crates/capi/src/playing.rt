@@ -2,41 +2,23 @@
 ghost use Rattle.std.specs.Prelude.{◌≡◌};
 ghost use Rattle.table.specs.Model.{content};
 ghost use Rattle.theory.specs.Machine.{answers, start};
-ghost use Rattle.dispatch.specs.Represents.{Answers};
 ghost use Rattle.policy.specs.Chosen.{chosen_order};
-ghost use Rattle.capi.specs.Steps.{call_of, reply_of, Told};
 ghost use Rattle.capi.specs.Played.{Played, PlayedFile, PlayedTold};
 
-use crate::outcome::{Outcome, outcome_of};
-use crate::replies::{looked, released, ticked};
-use crate::steps::{Call, Reply, Step};
-use dispatch::Run;
+use crate::outcome::Outcome;
+use crate::steps::{Reply, Step};
+use dispatch::{Event, Run};
 use policy::{Arrival, Bands, Deadline, Fixed, Policy};
 use table::{PolicyCode, Refusal, Table};
 use tablefile::read_table;
-
-// Makes one call.
-fn make<P: Policy>(run: &mut Run<P>, call: Call) -> Reply
-    ensures policy { run.new.policy ≡ run.old.policy }
-    ensures table { run.new.station.table ≡ run.old.station.table }
-    ensures answered { Told (P.meaning run.old.policy (content run.old.station.table)) run.old.station run.new.station (call_of call) result }
-{
-    match call.kind {
-        0 => released(run.release(call.task)),
-        1 | 2 => ticked(run.tick(call.kind == 2)),
-        _ => looked(run.look(call.task)),
-    }
-}
 
 // Makes the calls of these steps on a fresh run, in their order.
 fn play<P: Policy + Drop>(policy: P, table: &Table, steps: &mut [Step])
     ensures { Played (content table.now) (P.meaning policy (content table.now)) steps.old steps.new }
 {
     let mut run = Run::new(policy, table);
-    for at in 0..steps.len() {
-        let call = steps[at].call;
-        let reply = make(&mut run, call);
-        steps[at] = Step { call, reply };
+    for step in steps.iter_mut() {
+        step.reply = Reply::from(run.call(Event::from(step.call)));
     }
 }
 
@@ -67,5 +49,5 @@ fn play_file(file: &[u8], steps: &mut [Step]) -> Result<usize, Refusal>
 pub extern "C" fn station_play(file: &[u8], steps: &mut [Step]) -> Outcome
     ensures { PlayedTold file.now steps.old steps.new result }
 {
-    outcome_of(play_file(file, steps))
+    Outcome::from(play_file(file, steps))
 }

@@ -1,11 +1,11 @@
 //! What a run answers, as plain numbers.
 ghost use Rattle.std.specs.Prelude.{◌≡◌};
-ghost use Rattle.dispatch.specs.Replies.{release_told, tick_told, look_told};
-ghost use Rattle.capi.specs.Steps.{reply_of, refused};
+ghost use Rattle.dispatch.specs.Replies.{reply_told, ticked_told};
+ghost use Rattle.capi.specs.Steps.{reply_of};
 
 use crate::outcome::detail;
 use crate::steps::Reply;
-use dispatch::{Counts, Ticked};
+use dispatch::Ticked;
 use table::Refusal;
 
 // An answer of this kind with up to three numbers.
@@ -22,50 +22,38 @@ fn told(kind: u32, first: usize, second: usize, third: usize) -> Reply
     }
 }
 
-fn refused(why: Refusal) -> Reply
-    ensures { result ≡ refused why }
+// What a tick did.
+fn ticked(what: Ticked) -> Reply
+    ensures { result ≡ reply_of (ticked_told what) }
 {
-    told(0, usize::from(why.number()), detail(why), 0)
-}
-
-pub(crate) fn released(given: Result<u32, Refusal>) -> Reply
-    ensures { result ≡ reply_of (release_told given) }
-{
-    match given {
-        Ok(time) => told(1, time as usize, 0, 0),
-        Err(why) => refused(why),
+    match what {
+        Ticked::Idle => told(2, 0, 0, 0),
+        Ticked::Ran { task, release } => told(3, task, release as usize, 0),
+        Ticked::Finished {
+            task,
+            release,
+            response,
+        } => told(4, task, release as usize, response as usize),
     }
 }
 
-pub(crate) fn ticked(given: Result<Ticked, Refusal>) -> Reply
-    ensures { result ≡ reply_of (tick_told given) }
-{
-    match given {
-        Ok(Ticked::Idle) => told(2, 0, 0, 0),
-        Ok(Ticked::Ran { task, release }) => told(3, task, release as usize, 0),
-        Ok(
-            Ticked::Finished {
-                task,
-                release,
-                response,
+/// An answer as C has it.
+impl From<Result<dispatch::Reply, Refusal>> for Reply {
+    ghost from_gives = { λ given reply. reply ≡ reply_of (reply_told given) };
+
+    fn from(given: Result<dispatch::Reply, Refusal>) -> Reply {
+        match given {
+            Ok(dispatch::Reply::Released { time }) => told(1, time as usize, 0, 0),
+            Ok(dispatch::Reply::Ticked { what }) => ticked(what),
+            Ok(dispatch::Reply::Looked { counts }) => Reply {
+                kind: 5,
+                first: counts.accepted as usize,
+                second: counts.finished as usize,
+                third: counts.waiting as usize,
+                fourth: counts.missed as usize,
+                fifth: counts.longest as usize,
             },
-        ) => told(4, task, release as usize, response as usize),
-        Err(why) => refused(why),
-    }
-}
-
-pub(crate) fn looked(given: Result<Counts, Refusal>) -> Reply
-    ensures { result ≡ reply_of (look_told given) }
-{
-    match given {
-        Ok(counts) => Reply {
-            kind: 5,
-            first: counts.accepted as usize,
-            second: counts.finished as usize,
-            third: counts.waiting as usize,
-            fourth: counts.missed as usize,
-            fifth: counts.longest as usize,
-        },
-        Err(why) => refused(why),
+            Err(why) => told(0, usize::from(why.number()), detail(why), 0),
+        }
     }
 }

@@ -1,4 +1,9 @@
-//! Calls of a run and their answers as plain numbers.
+//! Calls of a run and their answers as plain numbers: the kinds are numbers, as C takes them.
+ghost use Rattle.std.specs.Prelude.{◌≡◌};
+ghost use Rattle.dispatch.specs.Replies as replies;
+ghost use Rattle.capi.specs.Steps.{call_of};
+
+use dispatch::Event;
 
 /// A call. Kind 0 is a release of the task, 1 a tick, 2 a tick with done, any other a look at the task.
 #[repr(C)]
@@ -6,6 +11,20 @@
 pub struct Call {
     pub kind: u32,
     pub task: usize,
+}
+
+/// A call as a run takes it.
+impl From<Call> for Event {
+    ghost from_gives = { λ call event. replies.call_of event ≡ call_of call };
+
+    fn from(call: Call) -> Event {
+        match call.kind {
+            0 => Event::Release { task: call.task },
+            1 => Event::Tick { done: false },
+            2 => Event::Tick { done: true },
+            _ => Event::Look { task: call.task },
+        }
+    }
 }
 
 /// An answer; numbers that are not named here are 0.

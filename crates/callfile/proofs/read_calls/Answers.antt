@@ -1,35 +1,44 @@
-use Rattle.std.proofs.Common.{◌+◌, take, sym, ◌∙◌, subst, take_all}
-use Rattle.callfile.specs.Said.{calls_said}
-use Rattle.callfile.proofs.Laying.{Laid, same_laid, laid_none, laid_nothing, laid_more, laid_full}
+use Rattle.std.proofs.Common.{◌≡◌, ◌+◌, ◌≤◌, [], ◌∷◌, length, map, take, set, sym, refl, ap, ◌∙◌, arith, rules, tests, length-append, map-id}
+use Rattle.std.proofs.lemmas.Iterator.{YieldsList-from_slice}
+use Rattle.std.proofs.lemmas.Iterator.Consumers.{YieldsList-from_filter_map, YieldsList-so_far, YieldsList-end}
+use Rattle.std.proofs.lemmas.List.{set-get_or, length-take}
+use Rattle.callfile.specs.Said.{call_said, calls_said, laid_over, unmade}
+use Rattle.callfile.proofs.Laying.{calls_said_is, laid_none, laid_snoc, laid_take}
 use Rattle.callfile.proofs.read_calls.Goals as goal
-use Rattle.callfile.proofs.read_calls.Goals.{in-Some+then-count-steps, in-Some+else-count-steps, in_default}
 
-pub loop-byte-init : goal.loop-byte-init
-loop-byte-init c = laid_none c.args.steps.now
+pub loop-count-init : goal.loop-count-init
+loop-count-init c = record { laid = sym (laid_none c.args.steps.now); places = refl }
 
-pub loop-byte-preserved : goal.loop-byte-preserved
-loop-byte-preserved c =
+pub loop-count-preserved : goal.loop-count-preserved
+loop-count-preserved c =
+    let inv = c.loop-count.invariant in
+    let said = c.loop-count.yielded in
+    let call = c.in-Some.call in
+    record {
+      laid = sym (laid_snoc said call c.args.steps.now ∙ ap (λ ps. set ps (length said) (unmade call)) (sym inv.laid) ∙ ap (λ k. set c.loop-count.steps k (unmade call)) (sym inv.places));
+      places = omega (arith, inv.places, length-append said (call ∷ []));
+    }
+
+pub returns-in_default : goal.returns-in_default
+returns-in_default c =
+    let inv = c.loop-count.invariant in
     let text = c.args.text.now in
-    let i = c.loop-byte.byte-index in
     let before = c.args.steps.now in
-    let steps = c.loop-byte.steps in
-    let count = c.loop-byte.count in
-    let later = c.match-call_of.steps in
-    let next = c.match-call_of.count in
-    let here = c.loop-byte-test.true in
-    let inv = c.loop-byte.invariant in
-    let kept = same_laid (calls_said (take (i + 1) text)) before steps later count next in
-    elim c.match-call_of.branch [
-      | in-Some+then-count-steps w ↦
-          let call = w.in-Some.call in
-          let more = laid_more text i before steps count call here (sym c.call_of.ensures ∙ w.in-Some.is) inv w.if-count-steps.true in
-          same_laid (calls_said (take (i + 1) text)) before _ later (count + 1) next w.steps-is w.count-is more
-      | in-Some+else-count-steps w ↦ kept w.steps-is w.count-is (laid_full text i before steps count w.in-Some.call here (sym c.call_of.ensures ∙ w.in-Some.is) inv w.if-count-steps.false)
-      | in_default w ↦ kept w.steps-is w.count-is (laid_nothing text i before steps count here (sym c.call_of.ensures ∙ w.in_default.is) inv)
-    ]
+    let all = YieldsList-end (YieldsList-from_filter_map _ call_said (YieldsList-from_slice text cc) c.filter_map-calls.ensures.closure (λ x r q k. search (rules, tests))) c.loop-count.yielded _ c.loop-count.yielded_by _ _ c.in_default.is c.next.ensures.steps in
+    let said : c.loop-count.yielded ≡ calls_said text = sym (map-id c.loop-count.yielded) ∙ all.0 ∙ calls_said_is text in
+    let many = ap length said in
+    record {
+      steps = set-get_or c.loop-count.steps c.loop-count.count _ ∙ inv.laid ∙ ap (λ es. laid_over es before) said;
+      count = omega (arith, inv.places, many, c.loop-count-test.true);
+    }
 
 pub returns : goal.returns
 returns c =
-    let all = take_all c.loop-byte.byte-index c.args.text.now c.loop-byte-test.false in
-    let done = subst (λ bs. Laid (calls_said bs) c.args.steps.now c.loop-byte.steps c.loop-byte.count) all c.loop-byte.invariant in
-    record { steps = done.laid; count = done.places }
+    let inv = c.loop-count.invariant in
+    let text = c.args.text.now in
+    let before = c.args.steps.now in
+    let n = length c.loop-count.yielded in
+    let so_far = YieldsList-so_far (YieldsList-from_filter_map _ call_said (YieldsList-from_slice text cc) c.filter_map-calls.ensures.closure (λ x r q k. search (rules, tests))) c.loop-count.yielded _ c.loop-count.yielded_by in
+    let said : c.loop-count.yielded ≡ take n (calls_said text) = sym (map-id c.loop-count.yielded) ∙ so_far ∙ ap (take n) (calls_said_is text) in
+    let end : length before ≤ n = omega (arith, inv.places, c.loop-count-test.false) in
+    record { steps = inv.laid ∙ ap (λ es. laid_over es before) said ∙ laid_take n (calls_said text) before end; count = omega (arith, ap length said, length-take n (calls_said text), end, inv.places, c.loop-count.auto.count-end, c.loop-count.auto.steps) }

@@ -1,7 +1,6 @@
-use Rattle.std.proofs.Common.{take}
-use Rattle.callfile.specs.Said.{calls_said}
-use Rattle.callfile.proofs.Laying.{Laid}
+use Rattle.std.proofs.Common.{◌≡◌, length}
+use Rattle.callfile.specs.Said.{laid_over}
 use Rattle.callfile.proofs.read_calls.Given as goal
 
-abbrev pub invariant-loop-byte : goal.invariant-loop-byte
-invariant-loop-byte l = Laid (calls_said (take l.byte-index l.text)) l.initial.steps l.steps l.count
+abbrev pub invariant-loop-count : goal.invariant-loop-count
+invariant-loop-count l = record { laid : l.steps ≡ laid_over l.yielded l.initial.steps; places : l.count ≡ length l.yielded }
