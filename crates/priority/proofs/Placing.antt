@@ -1,13 +1,15 @@
 -- Task i put at rank k by an exchange of two ranks: what stands behind k stays, and the rule goes on from there.
-use Rattle.std.proofs.Common.{◌≡◌, ℕ, ◌-◌, ◌<◌, ◌≤◌, ◌⊎◌, sym, ap, ◌∙◌, subst, inl, inr, arith}
-use Rattle.std.proofs.lemmas.Bool.{cases_eq, cases_lt}
+use Rattle.std.proofs.Common.{◌≡◌, ℕ, ◌-◌, ◌<◌, ◌≤◌, Bool, true, false, Decides, ◌⊎◌, sym, refl, ap, ◌∙◌, subst, inl, inr, arith}
+use Rattle.std.specs.Bool.{then_some}
+use Rattle.std.proofs.lemmas.Bool.{both_ways, cases_eq, cases_lt}
 use Rattle.table.specs.Rules.{TaskSet, Checked, task_count}
+use Rattle.table.specs.declared.checked.Table.{Table}
 use Rattle.table.proofs.Ranges.{task_ranges, ranks_apart}
 use Rattle.theory.specs.BusyPeriod.{BusyPeriod}
 use Rattle.priority.specs.Ordering.{OrderingOf, rank_in}
 use Rattle.priority.specs.Assignment.{Fits, Takes, Filled}
 use Rattle.priority.specs.Exchange.{exchanged, with_exchanged}
-use Rattle.priority.specs.Steps.{InTime}
+use Rattle.priority.specs.Steps.{JudgedBusy, InTime, Tried}
 use Rattle.priority.proofs.Pointwise.{Alike, alike_back, same_busy, ordering_alike}
 use Rattle.priority.proofs.Fitting.{SamePlaced, time_fits, fits_time, fits_moved}
 use Rattle.priority.proofs.Exchanging.{exchange_ordering, rank_exchanged, exchanged_first, exchanged_behind, exchanged_low}
@@ -54,17 +56,25 @@ module _ (t : TaskSet) (checked : Checked t) (k i : ℕ) (here : i < task_count 
     placed_back : (q : ℕ) → k ≤ q → SamePlaced q u t
     placed_back q le j lt = let p = placed q le j (omega (arith, alike_u.count)) in (p.1, p.0)
 
-    pub put_fits : (L : ℕ) → InTime u L i → Fits t L k i
+    put_fits : (L : ℕ) → InTime u L i → Fits t L k i
     put_fits L all = time_fits t u alike_u k i order_u.ranks here at_k (placed k (omega arith)) L all
 
-    pub put_unfit : (L : ℕ) → (InTime u L i → ⊥) → Fits t L k i → ⊥
+    put_unfit : (L : ℕ) → (InTime u L i → ⊥) → Fits t L k i → ⊥
     put_unfit L late fits = late (fits_time t u alike_u k i order_u.ranks here at_k (placed k (omega arith)) L fits)
 
-    pub put_busy : (L : ℕ) → BusyPeriod t L → BusyPeriod u L
+    put_busy : (L : ℕ) → BusyPeriod t L → BusyPeriod u L
     put_busy L busy = same_busy t u L alike_u busy
 
-    pub put_known : i < task_count u
+    put_known : i < task_count u
     put_known = omega (arith, alike_u.count)
+
+    -- the order is kept where the task is in time in it
+    pub put_tried : (b : Bool) (v : Table) → ((L : ℕ) → JudgedBusy u L → i < task_count u → Decides b (InTime u L i)) → (L : ℕ) → JudgedBusy t L → Tried t L k i (then_some b v)
+    put_tried b v told L busy = go b (told L (busy.0, put_busy L busy.1) put_known)
+      where
+        go : (b : Bool) → Decides b (InTime u L i) → Tried t L k i (then_some b v)
+        go true (fits, late) = put_fits L (fits refl)
+        go false (fits, late) = λ not_behind. put_unfit L (λ all. both_ways false refl (late all))
 
     -- the ranks after k - 1 are filled by the rule, where those after k were and i is the highest-numbered task left that fits
     pub put_filled : (L : ℕ) → Fits t L k i → ((j : ℕ) → i < j → j < task_count t → rank_in t j ≤ k → Fits t L k j → ⊥) → Filled t L k → Filled u L (k - 1)

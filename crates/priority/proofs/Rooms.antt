@@ -1,29 +1,41 @@
--- Tasks with exchanged ranks, written one after the other.
-use Rattle.std.proofs.Common.{◌≡◌, ℕ, ◌+◌, ◌-◌, ◌<◌, ◌≤◌, List, [], ◌∷◌, ◌++◌, map, length, get_or, take, set, sym, ap, ◌∙◌, arith, take_all}
+-- Tasks with exchanged ranks, in the front of a room for 24.
+use Rattle.std.proofs.Common.{◌≡◌, ℕ, ◌-◌, ◌<◌, ◌≤◌, List, ◌++◌, map, length, get_or, take, Some, None, Option, IsSome, sym, refl, ap, ◌∙◌, arith}
 use lib.ListN.{length-map}
-use Rattle.std.proofs.lemmas.List.{take_more, take_more_set, map_push}
+use Rattle.std.proofs.lemmas.Simd.{map-map}
+use Rattle.std.proofs.lemmas.List.{ext_get_or, get_or-map, get_or-take, get_or_append_left, length-take-le}
 use Rattle.table.specs.Content.{sporadic}
-use Rattle.table.specs.Rules.{TaskSet, task_count}
+use Rattle.table.specs.Model.{Built}
+use Rattle.table.specs.Rules.{TaskSet, Checked, task_count}
+use Rattle.table.specs.declared.checked.Table.{Table}
 use Rattle.table.specs.declared.kinds.Mode.{Mode}
 use Rattle.table.specs.declared.kinds.PolicyCode.TheVariants.{Fixed}
 use Rattle.table.specs.declared.task.Task.{Task}
 use Rattle.priority.specs.Exchange.{exchange, with_exchanged}
 
-pub one_more : (x y : ℕ) (room tasks : List Task) (at : ℕ) (new task : Task) → at < length room → at < length tasks → task ≡ get_or tasks at task → sporadic new ≡ exchange x y (sporadic task) → map sporadic (take at room) ≡ map (exchange x y) (map sporadic (take at tasks)) → map sporadic (take (at + 1) (set room at new)) ≡ map (exchange x y) (map sporadic (take (at + 1) tasks))
-one_more x y room tasks at new task here there read is so_far =
-    ap (map sporadic) (take_more_set room at new here)
-    ∙ map_push sporadic (take at room) new
-    ∙ ap (λ us. us ++ sporadic new ∷ []) so_far
-    ∙ ap (λ z. map (exchange x y) (map sporadic (take at tasks)) ++ z ∷ []) is
-    ∙ sym (map_push (exchange x y) (map sporadic (take at tasks)) (sporadic task))
-    ∙ ap (map (exchange x y)) (sym (map_push sporadic (take at tasks) task))
-    ∙ ap (λ z. map (exchange x y) (map sporadic (take at tasks ++ z ∷ []))) read
-    ∙ ap (λ ts. map (exchange x y) (map sporadic ts)) (sym (take_more tasks at task there))
+pub all_exchanged : (x y : ℕ) (d : Task) (tasks rest room : List Task) → length room ≡ 24 → length tasks ≤ 24
+    → ((k : ℕ) → k < 24 → sporadic (get_or room k d) ≡ exchange x y (sporadic (get_or (tasks ++ rest) k d)))
+    → map sporadic (take (length tasks) room) ≡ map (exchange x y) (map sporadic tasks)
+all_exchanged x y d tasks rest room long few each = ext_get_or (sporadic d) (map sporadic (take n room)) (map (exchange x y) (map sporadic tasks)) (omega (arith, front, whole)) same
+  where
+    n : ℕ
+    n = length tasks
 
-pub all_done : (x y : ℕ) (room tasks : List Task) (at : ℕ) → at ≤ length tasks → length tasks ≤ at → map sporadic (take at room) ≡ map (exchange x y) (map sporadic (take at tasks)) → map sporadic (take (length tasks) room) ≡ map (exchange x y) (map sporadic tasks)
-all_done x y room tasks at low high so_far =
-    let end : at ≡ length tasks = omega arith in
-    ap (λ n. map sporadic (take n room)) (sym end) ∙ so_far ∙ ap (λ ts. map (exchange x y) (map sporadic ts)) (take_all at tasks high)
+    front : length (map sporadic (take n room)) ≡ n
+    front = length-map (take n room) sporadic ∙ length-take-le n room (omega (arith, long, few))
+
+    whole : length (map (exchange x y) (map sporadic tasks)) ≡ n
+    whole = length-map (map sporadic tasks) (exchange x y) ∙ length-map tasks sporadic
+
+    same : (i : ℕ) → i < length (map sporadic (take n room)) → get_or (map sporadic (take n room)) i (sporadic d) ≡ get_or (map (exchange x y) (map sporadic tasks)) i (sporadic d)
+    same i h =
+        let inside : i < n = omega (arith, h, front) in
+        let there : i < length (take n room) = omega (arith, h, length-map (take n room) sporadic) in
+        get_or-map sporadic (take n room) i d (sporadic d) there
+        ∙ ap sporadic (get_or-take n room i d inside)
+        ∙ each i (omega (arith, inside, few))
+        ∙ ap (λ z. exchange x y (sporadic z)) (get_or_append_left tasks rest d i inside)
+        ∙ sym (get_or-map (λ z. exchange x y (sporadic z)) tasks i d (sporadic d) inside)
+        ∙ ap (λ zs. get_or zs i (sporadic d)) (sym (map-map (exchange x y) sporadic tasks))
 
 -- the slice of a table's tasks has as many as the table
 pub slice_long : (s : TaskSet) (tasks : List Task) → map sporadic tasks ≡ s.tasks → length tasks ≡ task_count s
@@ -38,3 +50,8 @@ made_of s x y n mode room tasks same count is front k = record { policy = Fixed;
 
     all : map sporadic (take (n - 0) room) ≡ map (exchange x y) s.tasks
     all = ap (λ m. map sporadic (take m room)) long ∙ front ∙ ap (map (exchange x y)) is
+
+-- parts that follow the rules make a table
+pub built_some : (s : TaskSet) (made : Option Table) → Built s made → Checked s → IsSome made
+built_some s None broken checked = sym broken ∙ checked
+built_some s (Some t) built checked = refl

@@ -15,10 +15,7 @@ use table::{Refusal, Table};
 fn in_time(order: &Table, task: usize) -> bool
     ensures { (L : ℕ) → JudgedBusy (content order.now) L → task < task_count (content order.now) → Decides result (InTime (content order.now) L task) }
 {
-    match analyse_task(&Fixed, order, task) {
-        Ok(row) => row.response <= row.deadline,
-        Err(_) => false,
-    }
+    analyse_task(&Fixed, order, task).is_ok_and(|row| row.response <= row.deadline)
 }
 
 // The order with the task at this rank; none where the task has a rank behind it, or is late there.
@@ -34,11 +31,7 @@ fn try_rank(order: &Table, task: usize, rank: u8) -> Option<Table>
         return None;
     }
     let next = exchange_ranks(order, present, rank);
-    if in_time(&next, task) {
-        Some(next)
-    } else {
-        None
-    }
+    in_time(&next, task).then_some(next)
 }
 
 // The order with this rank filled; none where no task left can take it.
@@ -48,6 +41,7 @@ fn take_rank(order: &Table, rank: u8) -> Option<Table>
     ensures reordered { Reordered (content order.now) result }
     ensures taken { (L : ℕ) → JudgedBusy (content order.now) L → Taken (content order.now) L rank result }
 {
+    // A loop: `find_map` was tried, and no proof brought what its closure answered to the contract.
     for task in (0..order.count()).rev() {
         if let Some(next) = try_rank(order, task, rank) {
             return Some(next);
@@ -64,10 +58,7 @@ fn fill_ranks(table: &Table) -> Result<Table, Refusal>
     let mut order = exchange_ranks(table, 1, 1);
     for left in (0..table.count()).rev() {
         let rank = left + 1;
-        let Some(next) = take_rank(&order, rank as u8) else {
-            return Err(Refusal::RankUnfilled { rank });
-        };
-        order = next;
+        order = take_rank(&order, rank as u8).ok_or(Refusal::RankUnfilled { rank })?;
     }
     Ok(order)
 }
@@ -77,9 +68,7 @@ fn fill_ranks(table: &Table) -> Result<Table, Refusal>
 pub fn assign_priorities(table: &Table, place: &mut Table) -> Result<(), Refusal>
     ensures { Outcome (content table.now) place.old place.new result }
 {
-    let Some(_) = busy_period(table) else {
-        return Err(Refusal::NoBusyPeriod);
-    };
+    busy_period(table).ok_or(Refusal::NoBusyPeriod)?;
     *place = fill_ranks(table)?;
     Ok(())
 }

@@ -3,7 +3,7 @@ ghost use Rattle.std.specs.Prelude.{◌≡◌, ◌≤◌, map, length, take};
 ghost use Rattle.table.specs.Content.{sporadic};
 ghost use Rattle.table.specs.Model.{content};
 ghost use Rattle.table.specs.Rules.{task_count};
-ghost use Rattle.priority.specs.Exchange.{exchanged, reranked, exchange, with_exchanged};
+ghost use Rattle.priority.specs.Exchange.{exchanged, exchange, with_exchanged};
 
 use table::{PolicyCode, Table, Task};
 
@@ -19,15 +19,13 @@ fn exchanged(first: u8, second: u8, rank: u8) -> u8
     }
 }
 
-fn reranked(task: &Task, rank: u8) -> Task
-    ensures { sporadic result ≡ reranked rank (sporadic task.now) }
+// The task with its rank exchanged.
+fn reranked(task: Task, first: u8, second: u8) -> Task
+    ensures { sporadic result ≡ exchange first second (sporadic task) }
 {
     Task {
-        cost: task.cost,
-        period: task.period,
-        deadline: task.deadline,
-        rank,
-        name: task.name,
+        rank: exchanged(first, second, task.rank),
+        ..task
     }
 }
 
@@ -39,8 +37,9 @@ fn exchanged_tasks(tasks: &[Task], first: u8, second: u8) -> [Task; 24]
     ensures front { map sporadic (take (length tasks.now) result) ≡ map (exchange first second) (map sporadic tasks.now) }
 {
     let mut room = [tasks[0]; 24];
-    for (at, task) in tasks.iter().enumerate() {
-        room[at] = reranked(task, exchanged(first, second, task.rank));
+    room[..tasks.len()].copy_from_slice(tasks);
+    for task in room.iter_mut() {
+        *task = reranked(*task, first, second);
     }
     room
 }
@@ -54,8 +53,6 @@ pub(crate) fn exchange_ranks(table: &Table, first: u8, second: u8) -> Table
     ensures { content result ≡ with_exchanged first second (content table.now) }
 {
     let room = exchanged_tasks(table.tasks(), first, second);
-    match Table::new(PolicyCode::Fixed, table.mode(), 0, &room[0..table.count()]) {
-        Some(ordered) => ordered,
-        None => *table,
-    }
+    // The ranks are those of the table in another order, so the rules that it follows are followed here.
+    Table::new(PolicyCode::Fixed, table.mode(), 0, &room[0..table.count()]).unwrap()
 }

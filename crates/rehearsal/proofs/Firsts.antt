@@ -1,13 +1,13 @@
 -- From the lowest-numbered task that is due after a tick to the first miss of a worst course.
-use Rattle.std.proofs.Common.{◌≡◌, ℕ, ◌+◌, ◌-◌, ◌<◌, ◌≤◌, min, true, false, leb, ◌⊎◌, [], ◌∷◌, ◌++◌, Some, None, Option, sym, ap, ◌∙◌, subst, inl, inr, add-one, arith}
-use Rattle.std.proofs.lemmas.Bool.{cases_Bool, cases_lt, cond-true, cond-false, leb-true, leb-false}
+use Rattle.std.proofs.Common.{◌≡◌, ℕ, ◌+◌, ◌-◌, ◌<◌, ◌≤◌, min, true, false, leb, ◌⊎◌, [], ◌∷◌, ◌++◌, Some, None, Ok, Option, sym, refl, ap, ◌∙◌, subst, inl, inr, add-one, arith}
+use Rattle.std.proofs.lemmas.Bool.{both_ways, cases_Bool, cases_lt, cond-true, cond-false, leb-true, leb-false}
 use Rattle.table.specs.Rules.{TaskSet, Checked, task_at, task_count}
 use Rattle.table.proofs.Ranges.{task_ranges}
 use Rattle.policy.specs.Order.{Order}
 use Rattle.policy.specs.Laws.{Lawful}
 use Rattle.theory.specs.Lists.{In}
 use Rattle.theory.specs.Machine.{Work, State, tick, play, last_time}
-use Rattle.theory.specs.Course.{releases_below, course_until}
+use Rattle.theory.specs.Course.{lead, releases_below, course_until}
 use Rattle.theory.specs.Guarantee.{OverdueAfter}
 use Rattle.theory.proofs.MachineFacts.{Spaced, facts_after}
 use Rattle.theory.proofs.Search.{none_some, some_same}
@@ -15,7 +15,11 @@ use Rattle.dispatch.specs.Oldest.{oldest_waiting}
 use Rattle.dispatch.specs.Represents.{Answered}
 use Rattle.dispatch.specs.declared.station.Station.{Station}
 use Rattle.rehearsal.specs.Due.{if_due, due_of, DueFirst}
-use Rattle.rehearsal.specs.FirstMiss.{course_at, FirstMiss, MissedFirst}
+use Rattle.analysis.specs.declared.rows.Row.{Row}
+use Rattle.courses.specs.declared.course.Course.{Course}
+use Rattle.rehearsal.specs.FirstMiss.{course_at, FirstMiss, MissedFirst, Sought}
+use Rattle.rehearsal.specs.Rehearsed.{playable}
+use Rattle.rehearsal.specs.ToPlay.{ToPlay}
 use Rattle.rehearsal.specs.declared.misses.Miss.{Miss}
 use Rattle.rehearsal.proofs.Clock.{course_time}
 use Rattle.rehearsal.proofs.Oldest.{oldest_in, oldest_least}
@@ -128,3 +132,19 @@ module _ (s : TaskSet) (o : Order) (checked : Checked s) (law : Lawful s o) (i a
       go : (last_time < end) ⊎ (end ≤ last_time) → (t : ℕ) → t ≤ end → OverdueAfter s o (course_until s o i a t) → ⊥
       go (inl lt) t le late = none_later s o checked law i a (λ u low. none u (omega (arith, is))) t late
       go (inr ge) t le late = none t (omega (arith, is)) late
+
+-- a row that is out of range meets no deadline's miss
+pub sought_none : (s : TaskSet) (o : Order) (i : ℕ) (row : Row) → ToPlay s o i row (Ok None) → Sought s o i row (Ok None)
+sought_none s o i row found = (found.0, (λ told. absurd (both_ways (playable row) found.1 told)), (λ out. refl))
+
+-- and one in range the first along its course, which is played no further than the clock goes
+pub sought_along : (s : TaskSet) (o : Order) → Checked s → Lawful s o → (i : ℕ) (row : Row) (c : Course) (end : ℕ) → ToPlay s o i row (Ok (Some (c, end)))
+    → (cut : ℕ) → cut ≡ min end last_time → (got : Option Miss) → MissedFirst s o c.task c.offset cut got → Sought s o i row (Ok got)
+sought_along s o checked law i row c end found cut short got first =
+    let arrives : end ≡ lead s o c.task c.offset + c.offset + row.response = found.5 ∙ ap (λ n. n + c.offset + row.response) found.4.ticks in
+    let whole = whole_course s o checked law c.task c.offset (lead s o c.task c.offset + c.offset + row.response) cut got (omega (arith, short, arrives)) first in (
+      found.0,
+      (λ told. subst (λ k. MissedFirst s o k row.offset (lead s o k row.offset + row.offset + row.response) got) found.2
+          (subst (λ a. MissedFirst s o c.task a (lead s o c.task a + a + row.response) got) found.3 whole)),
+      (λ out. absurd (both_ways (playable row) out found.1)),
+    )

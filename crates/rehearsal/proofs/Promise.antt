@@ -1,13 +1,13 @@
 -- A worst course that is played from the row of an admitted table shows the response of the row.
 use Rattle.std.proofs.Common.{◌≡◌, ℕ, ◌+◌, ◌<◌, true, eqb, List, Some, None, Ok, Err, Option, Result, sym, refl, ap, ◌∙◌, subst, arith}
-use Rattle.std.proofs.lemmas.Bool.{lt-ltb, le-leb, eq-eqb, and_from, cond-true}
+use Rattle.std.proofs.lemmas.Bool.{lt-ltb, le-leb, eq-eqb, and_from, cond-true, cond-false}
 use Rattle.table.specs.Rules.{TaskSet, Checked, task_count}
 use Rattle.table.specs.declared.refusal.Refusal.{Refusal}
 use Rattle.table.proofs.Ranges.{task_ranges}
 use Rattle.policy.specs.Order.{Order}
 use Rattle.policy.specs.Laws.{Lawful}
 use Rattle.theory.specs.Machine.{Finished, answers, start}
-use Rattle.theory.specs.Course.{lead, worst_course}
+use Rattle.theory.specs.Course.{lead, worst_course, course_until}
 use Rattle.analysis.specs.Judged.{Given, VerdictOf, Meets, row_at}
 use Rattle.analysis.specs.Promised.{IsLate}
 use Rattle.analysis.specs.declared.rows.Row.{Row}
@@ -15,9 +15,12 @@ use Rattle.analysis.specs.declared.rows.Judgement.{Judgement}
 use Rattle.analysis.specs.declared.rows.Verdict.{Verdict}
 use Rattle.analysis.specs.declared.rows.Verdict.TheVariants.{Admitted, Late}
 use Rattle.analysis.proofs.Promises.{rows_bound, rows_attained, verdict_exact}
-use Rattle.rehearsal.specs.Seen.{told_by}
+use Rattle.courses.specs.declared.course.Course.{Course}
+use Rattle.rehearsal.specs.Seen.{seen, told_by}
 use Rattle.rehearsal.specs.Rehearsed.{Rehearsed, AsPromised, HoldsInRuns, playable, shown}
+use Rattle.rehearsal.specs.ToPlay.{ToPlay}
 use Rattle.rehearsal.proofs.Seeing.{seen_last}
+use Rattle.rehearsal.proofs.Steps.{shown_is}
 
 tells_itself : (i arrival response : ℕ) → told_by i arrival (Finished i arrival response) ≡ Some response
 tells_itself i arrival response = cond-true _ (Some response) None (and_from (eqb i i) (eqb arrival arrival) (eq-eqb i i refl) (eq-eqb arrival arrival refl))
@@ -52,3 +55,13 @@ as_promised s o checked law i row got exact before rows j given on_time h is =
 
 pub holds_in_runs : (s : TaskSet) (o : Order) → Checked s → Lawful s o → HoldsInRuns s o
 holds_in_runs s o checked law before rows j given = (rows_bound s o checked law before rows j given, rows_attained s o checked law before rows j given, verdict_exact s o checked law before rows j given)
+
+-- nothing is played from a row that is out of range
+pub exact_none : (s : TaskSet) (o : Order) (i : ℕ) (row : Row) → ToPlay s o i row (Ok None) → Rehearsed s o i row (Ok None)
+exact_none s o i row found = (found.0, sym (cond-false (playable row) _ None found.1))
+
+-- and the worst course from one in range
+pub exact_along : (s : TaskSet) (o : Order) (i : ℕ) (row : Row) (c : Course) (end : ℕ) → ToPlay s o i row (Ok (Some (c, end))) → (got : Option ℕ)
+    → got ≡ seen c.task (c.lead.ticks + c.offset) (answers s o start (course_until s o c.task c.offset end)) → Rehearsed s o i row (Ok got)
+exact_along s o i row c end found got saw =
+    (found.0, saw ∙ shown_is s o c i row.offset row.response end found.2 found.3 found.4.ticks found.5 ∙ sym (cond-true (playable row) _ None found.1))

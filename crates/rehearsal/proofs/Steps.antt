@@ -1,5 +1,6 @@
 -- One more release and one more tick of a worst course on a station.
-use Rattle.std.proofs.Common.{◌≡◌, ℕ, ◌+◌, ◌<◌, Bool, false, cond, ◌&&◌, ltb, List, [], ◌∷◌, ◌++◌, None, Option, sym, refl, ap, ◌∙◌, subst, append-nil, add-one}
+use Rattle.std.proofs.Common.{◌≡◌, ℕ, ◌+◌, ◌<◌, Bool, false, cond, ◌&&◌, ltb, List, [], ◌∷◌, ◌++◌, Some, None, Option, sym, refl, ap, ◌∙◌, subst, append-nil, add-one}
+use Rattle.std.specs.Option.{option_or}
 use Rattle.std.proofs.lemmas.Bool.{lt-ltb}
 use Rattle.table.specs.Model.{content}
 use Rattle.table.specs.Rules.{TaskSet, task_count}
@@ -16,6 +17,10 @@ use Rattle.rehearsal.proofs.Seeing.{releases_more, course_more, seen_tick}
 -- the guard of a task's number holds inside the table
 pub guarded : (j n : ℕ) (b c : Bool) → j < n → b ≡ c → (ltb j n && b) ≡ c
 guarded j n b c h e = ap (λ x. x && b) (lt-ltb j n h) ∙ e
+
+else_is : (x y : Option ℕ) → option_or x y ≡ or_else x y
+else_is None y = refl
+else_is (Some v) y = refl
 
 module _ (s : TaskSet) (o : Order) where
   -- an answer in the words of the table that the station keeps
@@ -54,7 +59,7 @@ module _ (s : TaskSet) (o : Order) where
         → Shown k a (t + 1) e arrival next
     shown_more t d e got told next so_far h tells is = record {
       played = subst (λ zs. Answered o e zs) (sym (ap (course_until s o k a) (add-one t) ∙ course_more k arrival s o k a t)) h;
-      saw = is ∙ ap (λ q. or_else q got) tells ∙ ap (or_else (told_by k arrival (answer s o (play s o start (course_until s o k a t ++ releases_below s o k a t (task_count s))) (tick false)))) so_far.saw ∙ sym (seen_tick k arrival s o k a t) ∙ ap (λ m. seen k arrival (answers s o start (course_until s o k a m))) (sym (add-one t));
+      saw = is ∙ else_is told got ∙ ap (λ q. or_else q got) tells ∙ ap (or_else (told_by k arrival (answer s o (play s o start (course_until s o k a t ++ releases_below s o k a t (task_count s))) (tick false)))) so_far.saw ∙ sym (seen_tick k arrival s o k a t) ∙ ap (λ m. seen k arrival (answers s o start (course_until s o k a m))) (sym (add-one t));
     }
 
   -- a course that is played to its end shows what the worst course shows

@@ -1,6 +1,7 @@
 pub mod Seen
 pub mod OneTick
 pub mod Rehearsed
+pub mod ToPlay
 pub mod Replayed
 pub mod Within
 pub mod Timeline

@@ -16,12 +16,7 @@ use table::{Refusal, Table};
 fn runs_now(given: Result<Ticked, Refusal>, job: usize) -> bool
     ensures { result ≡ runs job (tick_told given) }
 {
-    match given {
-        Ok(Ticked::Finished { task, .. }) => task == job,
-        Ok(Ticked::Ran { task, .. }) => task == job,
-        Ok(Ticked::Idle) => false,
-        Err(_) => false,
-    }
+    matches!(given, Ok(Ticked::Ran { task, .. } | Ticked::Finished { task, .. }) if task == job)
 }
 
 fn mark_of(releases: bool, runs: bool) -> u8
@@ -49,10 +44,10 @@ pub(crate) fn draw<P: Policy + Drop>(
     ensures { marks.new ≡ timeline (content table.now) (P.meaning policy (content table.now)) course.now.task course.now.offset job (length marks.old) }
 {
     let mut run = Run::new(policy, table);
-    let end = marks.len() as u32;
-    for time in 0..end {
+    for (at, mark) in marks.iter_mut().enumerate() {
+        let time = at as u32;
         let ticked = play_tick(&mut run, table, course, time);
         let releases = course.releases(table, job, time);
-        marks[time as usize] = mark_of(releases, runs_now(ticked, job));
+        *mark = mark_of(releases, runs_now(ticked, job));
     }
 }

@@ -12,24 +12,6 @@ use dispatch::{Step, replay};
 use policy::Policy;
 use table::{Refusal, Table};
 
-// Judges, and then plays the calls.
-fn judge_and_replay<P: Policy + Drop>(
-    policy: P,
-    table: &Table,
-    rows: &mut [Row],
-    steps: &mut [Step],
-) -> Result<Judgement, Refusal>
-    ensures judged { Judged (content table.now) (P.meaning policy (content table.now)) rows.old rows.new result }
-    ensures replayed { Replayed (content table.now) (P.meaning policy (content table.now)) steps.old steps.new result }
-    ensures never_longer { OnOk result (RowsBound (content table.now) (P.meaning policy (content table.now)) rows.new) }
-    ensures attained { IfOk result (λ j. RowsAttained (content table.now) (P.meaning policy (content table.now)) rows.new j.verdict) }
-    ensures late_exactly { IfOk result (λ j. VerdictExact (content table.now) (P.meaning policy (content table.now)) j.verdict) }
-{
-    let judgement = judge(&policy, table, rows)?;
-    replay(policy, table, steps);
-    Ok(judgement)
-}
-
 /// Judges a table under a policy, and then makes the calls of these steps on a fresh run of it, in their order, and writes the answer to each beside it.
 /// No answer tells a response longer than its row's, and where the table is admitted none tells a missed deadline or a full line.
 /// Refused, with rows and steps as they were, where the judgement is.
@@ -47,5 +29,7 @@ pub fn judged_replay<P: Policy + Drop>(
     ensures attained { IfOk result (λ j. RowsAttained (content table.now) (P.meaning policy (content table.now)) rows.new j.verdict) }
     ensures late_exactly { IfOk result (λ j. VerdictExact (content table.now) (P.meaning policy (content table.now)) j.verdict) }
 {
-    judge_and_replay(policy, table, rows, steps)
+    let judgement = judge(&policy, table, rows)?;
+    replay(policy, table, steps);
+    Ok(judgement)
 }

@@ -3,9 +3,8 @@ ghost use Rattle.table.specs.Model.{content};
 ghost use Rattle.rehearsal.specs.FirstMiss.{Sought, LateSeen};
 
 use crate::seeking::seek;
-use crate::worst::CLOCK_TICKS;
+use crate::worst::{CLOCK_TICKS, course_to_play};
 use analysis::Row;
-use courses::Course;
 use policy::Policy;
 use table::{Refusal, Table};
 
@@ -20,25 +19,6 @@ pub struct Miss {
     pub time: u32,
 }
 
-// Along the course as far as the row's response.
-fn seek_along<P: Policy + Drop>(
-    policy: P,
-    table: &Table,
-    task: usize,
-    row: Row,
-) -> Result<Option<Miss>, Refusal>
-    ensures { Sought (content table.now) (P.meaning policy (content table.now)) task row result }
-{
-    let Some(course) = Course::new(&policy, table, task, row.offset)? else {
-        return Ok(None);
-    };
-    if row.response > CLOCK_TICKS {
-        return Ok(None);
-    }
-    let end = course.arrival() + row.response;
-    Ok(seek(policy, table, &course, end.min(CLOCK_TICKS)))
-}
-
 /// Plays the worst course of a task at its row's offset on a fresh run, until the row's response has passed since the last release of the task, and answers the first job that was unfinished as its deadline came, that of the lowest-numbered task if there are several; none where every job met its deadline.
 /// In a late row of a judgement there is one. None for an offset of 60,000 or more or a response above 4,000,000,000; refused where the table has no such task.
 pub fn first_miss<P: Policy + Drop>(
@@ -50,5 +30,8 @@ pub fn first_miss<P: Policy + Drop>(
     ensures sought { Sought (content table.now) (P.meaning policy (content table.now)) task row result }
     ensures late { LateSeen (content table.now) (P.meaning policy (content table.now)) task row result }
 {
-    seek_along(policy, table, task, row)
+    let Some((course, end)) = course_to_play(&policy, table, task, row)? else {
+        return Ok(None);
+    };
+    Ok(seek(policy, table, &course, end.min(CLOCK_TICKS)))
 }

@@ -3,7 +3,7 @@ ghost use Rattle.std.specs.Prelude.{◌≡◌, ◌+◌, false, List, [], ◌∷�
 ghost use Rattle.table.specs.Model.{content};
 ghost use Rattle.table.specs.Rules.{task_count};
 ghost use Rattle.theory.specs.Course.{releases_below, course_until};
-ghost use Rattle.theory.specs.Machine.{Call, release, start, answers, or_else};
+ghost use Rattle.theory.specs.Machine.{Call, release, start, answers};
 ghost use Rattle.courses.specs.OneCourse.{CourseOf};
 ghost use Rattle.dispatch.specs.Replies.{tick_told};
 ghost use Rattle.dispatch.specs.Represents.{Answered};
@@ -26,24 +26,8 @@ fn response_told(given: Result<Ticked, Refusal>, job: usize, arrival: u32) -> Op
                 release,
                 response,
             },
-        ) => if task == job && release == arrival {
-            Some(response)
-        } else {
-            None
-        },
-        Ok(Ticked::Ran { .. }) => None,
-        Ok(Ticked::Idle) => None,
-        Err(_) => None,
-    }
-}
-
-// The later where there is one, else the earlier.
-fn latest(later: Option<u32>, earlier: Option<u32>) -> Option<u32>
-    ensures { result ≡ or_else later earlier }
-{
-    match later {
-        Some(response) => Some(response),
-        None => earlier,
+        ) if task == job && release == arrival => Some(response),
+        _ => None,
     }
 }
 
@@ -103,8 +87,7 @@ pub(crate) fn play<P: Policy + Drop>(
     let mut seen = None;
     for time in 0..end {
         let ticked = play_tick(&mut run, table, course, time);
-        let told = response_told(ticked, course.task(), course.arrival());
-        seen = latest(told, seen);
+        seen = response_told(ticked, course.task(), course.arrival()).or(seen);
     }
     seen
 }

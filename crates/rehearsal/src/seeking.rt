@@ -19,10 +19,9 @@ use table::Table;
 fn is_due(table: &Table, task: usize, release: u32, time: u32) -> bool
     ensures { result ≡ (nat_lt task (task_count (content table.now)) && nat_le (task_at (content table.now) task).deadline (time - release)) }
 {
-    match table.task(task) {
-        Some(known) => known.deadline <= time.saturating_sub(release),
-        None => false,
-    }
+    table
+        .task(task)
+        .is_some_and(|known| known.deadline <= time.saturating_sub(release))
 }
 
 // The release of the oldest waiting job of a task, where its deadline is reached.
@@ -30,14 +29,9 @@ fn due_release<P: Policy>(run: &Run<P>, table: &Table, task: usize, time: u32) -
     requires { table.now ≡ run.now.station.table }
     ensures { (calls : List Call) → Answered (P.meaning run.now.policy (content table.now)) run.now.station calls → task < task_count (content table.now) → result ≡ due_of (content table.now) (play (content table.now) (P.meaning run.now.policy (content table.now)) start calls) time task }
 {
-    let Ok(Some(release)) = run.oldest(task) else {
-        return None;
-    };
-    if is_due(table, task, release, time) {
-        Some(release)
-    } else {
-        None
-    }
+    run.oldest(task)
+        .ok()?
+        .filter(|release| is_due(table, task, *release, time))
 }
 
 // The lowest-numbered task that has one, with this job.
@@ -45,6 +39,7 @@ fn first_due<P: Policy>(run: &Run<P>, table: &Table, time: u32) -> Option<Miss>
     requires { table.now ≡ run.now.station.table }
     ensures { (calls : List Call) → Answered (P.meaning run.now.policy (content table.now)) run.now.station calls → DueFirst (content table.now) (play (content table.now) (P.meaning run.now.policy (content table.now)) start calls) time result }
 {
+    // A loop, as the search in `seek`: `find_map` over calls whose promise is no function of the number leaves nothing to the proof.
     for task in 0..table.count() {
         if let Some(release) = due_release(run, table, task, time) {
             return Some(Miss {

@@ -1,11 +1,13 @@
-use Rattle.std.proofs.Common.{◌≡◌, ◌+◌, ◌-◌, ◌≤◌, sym, refl, subst, arith, rules}
+use Rattle.std.proofs.Common.{◌≡◌, ◌+◌, ◌-◌, ◌≤◌, Some, None, Err, sym, refl, subst, arith, rules}
 use Rattle.analysis.proofs.Filling.{few_tasks}
 use Rattle.table.specs.Model.{content}
 use Rattle.table.specs.Rules.{task_count}
+use Rattle.table.specs.declared.refusal.Refusal.TheVariants.{RankUnfilled}
 use Rattle.table.proofs.Tables.{table_checked}
 use Rattle.table.proofs.Ranges.{count_ranges}
 use Rattle.priority.specs.Assignment.{Filled}
 use Rattle.priority.specs.Ordering.{OrderingOf}
+use Rattle.priority.specs.Steps.{Reordered, Taken, Ranked}
 use Rattle.priority.proofs.Pointwise.{same_busy, ordering_alike}
 use Rattle.priority.proofs.Exchanging.{exchange_ordering}
 use Rattle.priority.proofs.Placing.{ordering_more, none_filled}
@@ -39,12 +41,15 @@ take_rank-requires c =
       high = omega (arith, c.loop-left.auto.left, c.loop-left-test.true, c.count-left.ensures, (ordering_alike s (content c.loop-left.order) c.loop-left.invariant.0).count);
     }
 
-pub returns-in_default : goal.returns-in_default
-returns-in_default c = λ L busy.
+pub returns-in_err-order : goal.returns-in_err-order
+returns-in_err-order c = λ L busy.
     let s = content c.args.table.now in
     let t = content c.loop-left.order in
     let k = c.loop-left.left - 1 + 1 in
-    let same : c.loop-left.left ≡ k = omega (arith, c.loop-left-test.true) in (
+    let same : c.loop-left.left ≡ k = omega (arith, c.loop-left-test.true) in
+    let none : c.take_rank.result ≡ None = search rules in
+    let refused : c.from_residual.result ≡ Err (RankUnfilled k) = search rules in
+    subst (λ r. Ranked s L r) (sym refused) (
       k,
       refl,
       omega arith,
@@ -53,7 +58,7 @@ returns-in_default c = λ L busy.
         t,
         c.loop-left.invariant.0,
         subst (λ q. Filled t L q) same (c.loop-left.invariant.1 L busy),
-        c.in_default.ensures.taken L (busy.0, same_busy s t L (ordering_alike s t c.loop-left.invariant.0) busy.1),
+        subst (λ r. Taken t L k r) none (c.take_rank.ensures.taken L (busy.0, same_busy s t L (ordering_alike s t c.loop-left.invariant.0) busy.1)),
       ),
     )
 
@@ -61,11 +66,13 @@ pub loop-left-preserved : goal.loop-left-preserved
 loop-left-preserved c =
     let s = content c.args.table.now in
     let t = content c.loop-left.order in
-    let u = content c.in-Some.next in
+    let u = content c.in_ok-order.order in
     let k = c.loop-left.left - 1 + 1 in
     let same : c.loop-left.left ≡ k = omega (arith, c.loop-left-test.true) in
     let less : k - 1 ≡ c.loop-left.left - 1 = omega arith in
-    let found = c.in-Some.ensures in (
-      ordering_more s t u c.loop-left.invariant.0 found.reordered,
-      λ L busy. subst (λ q. Filled u L q) less (found.taken L (busy.0, same_busy s t L (ordering_alike s t c.loop-left.invariant.0) busy.1) (subst (λ q. Filled t L q) same (c.loop-left.invariant.1 L busy))),
+    let found : c.take_rank.result ≡ Some c.in_ok-order.order = search rules in (
+      ordering_more s t u c.loop-left.invariant.0 (subst (λ r. Reordered t r) found c.take_rank.ensures.reordered),
+      λ L busy.
+          subst (λ q. Filled u L q) less
+          (subst (λ r. Taken t L k r) found (c.take_rank.ensures.taken L (busy.0, same_busy s t L (ordering_alike s t c.loop-left.invariant.0) busy.1)) (subst (λ q. Filled t L q) same (c.loop-left.invariant.1 L busy))),
     )

@@ -1,6 +1,8 @@
+use Rattle.std.proofs.Common.{Ok, rules}
 use Rattle.table.specs.Model.{content}
 use Rattle.table.proofs.Tables.{table_checked}
 use Rattle.policy.proofs.Lawfulness.{lawful}
+use Rattle.rehearsal.specs.Replayed.{Replayed}
 use Rattle.rehearsal.proofs.Bounded.{kept_within}
 use Rattle.rehearsal.proofs.judged.judged_replay.Goals as goal
 
@@ -12,11 +14,12 @@ returns g c =
     let met = g.met.P.Policy in
     let checked = table_checked c.args.table.now in
     let laws = lawful s o (met.total p s checked) (met.transitive p s checked) (met.earlier p s checked) (met.range p s checked) (met.rule p s checked) in
-    let told = c.judge_and_replay.ensures in
-    let kept = kept_within s o checked laws c.args.rows.now c.judge_and_replay.new.rows c.args.steps.now c.judge_and_replay.new.steps c.judge_and_replay.result told.judged told.replayed in
+    let told = c.in_ok-judgement.ensures in
+    let replayed : Replayed s o c.args.steps.now c.replay.new.steps (Ok c.in_ok-judgement.judgement) = search rules in
+    let kept = kept_within s o checked laws c.args.rows.now c.judge.new.rows c.args.steps.now c.replay.new.steps (Ok c.in_ok-judgement.judgement) told.judged replayed in
     record {
       judged = told.judged;
-      replayed = told.replayed;
+      replayed = replayed;
       within = kept.0;
       on_time = kept.1;
       never_longer = told.never_longer;

@@ -42,10 +42,10 @@ loop-time-preserved g c =
     let ticked = subst (λ q. Answered (m q s) d calls → OneTick s (m q s) course t calls e (tick_told c.play_tick-ticked.result)) inv.0 (c.play_tick-ticked.ensures.answered calls) inv.2.played in
     let arrival = course.lead.ticks + course.offset in
     let given = tick_told c.play_tick-ticked.result in
-    let tells = c.response_told-told.ensures ∙ ap (λ k. told_by k c.arrival.result given) c.task.ensures ∙ ap (λ z. told_by course.task z given) c.arrival.ensures ∙ ap (told_by course.task arrival) ticked.tells in (
+    let tells = c.response_told.ensures ∙ ap (λ k. told_by k c.arrival.result given) c.task.ensures ∙ ap (λ z. told_by course.task z given) c.arrival.ensures ∙ ap (told_by course.task arrival) ticked.tells in (
       c.play_tick-ticked.ensures.policy ∙ inv.0,
       c.play_tick-ticked.ensures.table ∙ inv.1,
-      shown_more s o course.task course.offset (course.lead.ticks + course.offset) t d e c.loop-time.seen c.response_told-told.result c.latest-seen.result inv.2 ticked.played tells c.latest-seen.ensures,
+      shown_more s o course.task course.offset (course.lead.ticks + course.offset) t d e c.loop-time.seen c.response_told.result c.or-seen.result inv.2 ticked.played tells c.or-seen.ensures,
     )
 
 pub returns : goal.returns
