@@ -13,3 +13,4 @@ pub struct Name {
 }
 
 pub mod letters;
+mod shown;

@@ -55,4 +55,10 @@ impl Name {
     {
         &self.bytes[0..self.len]
     }
+    /// The letters as text.
+    pub fn as_str(&self) -> &str
+        ensures { result.now ≡ letters self.now }
+    {
+        str::from_utf8(self.as_bytes()).unwrap()
+    }
 }
