@@ -1,7 +1,10 @@
 //! The scheduling mode and the policy code, with the numbers and words that formats and output use.
-ghost use Rattle.std.specs.Prelude.{◌≡◌};
+ghost use Rattle.std.specs.Prelude.{◌≡◌, ◌++◌, Some, codes, decimal};
 ghost use Rattle.table.specs.Words.{mode_word, policy_word};
-ghost use Rattle.table.specs.Codes.{mode_code, policy_code, mode_coded, policy_coded};
+ghost use Rattle.table.specs.Codes.{mode_coded, policy_coded, Decodes};
+
+use std::error::Error;
+use std::fmt;
 
 /// Whether a begun job may be displaced by one that is ahead of it.
 #[derive(Clone, Copy, Debug, PartialEq, Eq)]
@@ -25,19 +28,38 @@ pub enum PolicyCode {
     Bands,
 }
 
-impl Mode {
-    /// The mode of a header byte: 0 or 1; none for any other.
-    pub fn from_code(code: u8) -> Option<Mode>
-        ensures { result ≡ mode_coded code }
-    {
+/// A byte that stands for no mode, or for no policy.
+#[derive(Clone, Copy, Debug, PartialEq, Eq)]
+pub struct UnknownCode(pub u8);
+
+impl fmt::Display for UnknownCode {
+    ghost output = { λ e. Some (codes "nothing has the code " ++ decimal e.0) };
+
+    fn fmt<W: fmt::Write>(&self, f: &mut fmt::Formatter<W>) -> fmt::Result {
+        write!(f, "nothing has the code {}", self.0)
+    }
+}
+
+impl Error for UnknownCode {}
+
+/// The mode of a header byte: 0 or 1.
+impl TryFrom<u8> for Mode {
+    type Error = UnknownCode;
+
+    ghost try_from_gives = { Decodes mode_coded };
+
+    fn try_from(code: u8) -> Result<Self, UnknownCode> {
         match code {
-            0 => Some(Mode::NonPreemptive),
-            1 => Some(Mode::Preemptive),
-            _ => None,
+            0 => Ok(Mode::NonPreemptive),
+            1 => Ok(Mode::Preemptive),
+            _ => Err(UnknownCode(code)),
         }
     }
+}
 
+impl Mode {
     /// The word that a report prints.
+    // Bytes, not `Display`: a report is written into lent bytes, and its clauses need the word's bytes.
     pub fn word(self) -> &'static [u8]
         ensures { result.now ≡ mode_word self }
     {
@@ -48,21 +70,26 @@ impl Mode {
     }
 }
 
-impl PolicyCode {
-    /// The policy of a header byte: 1 to 4; none for any other.
-    pub fn from_code(code: u8) -> Option<PolicyCode>
-        ensures { result ≡ policy_coded code }
-    {
+/// The policy of a header byte: 1 to 4.
+impl TryFrom<u8> for PolicyCode {
+    type Error = UnknownCode;
+
+    ghost try_from_gives = { Decodes policy_coded };
+
+    fn try_from(code: u8) -> Result<Self, UnknownCode> {
         match code {
-            1 => Some(PolicyCode::Fixed),
-            2 => Some(PolicyCode::Deadline),
-            3 => Some(PolicyCode::Arrival),
-            4 => Some(PolicyCode::Bands),
-            _ => None,
+            1 => Ok(PolicyCode::Fixed),
+            2 => Ok(PolicyCode::Deadline),
+            3 => Ok(PolicyCode::Arrival),
+            4 => Ok(PolicyCode::Bands),
+            _ => Err(UnknownCode(code)),
         }
     }
+}
 
+impl PolicyCode {
     /// The word that a report prints.
+    // Bytes, not `Display`: a report is written into lent bytes, and its clauses need the word's bytes.
     pub fn word(self) -> &'static [u8]
         ensures { result.now ≡ policy_word self }
     {

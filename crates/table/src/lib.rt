@@ -8,7 +8,7 @@ pub mod refusal;
 pub mod task;
 
 pub use checked::Table;
-pub use kinds::{Mode, PolicyCode};
+pub use kinds::{Mode, PolicyCode, UnknownCode};
 pub use name::Name;
 pub use name::letters::is_name_byte;
 pub use refusal::{Layer, Refusal};

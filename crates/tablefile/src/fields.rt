@@ -47,10 +47,7 @@ pub(crate) fn policy_at(src: &[u8], at: usize) -> Result<PolicyCode, Refusal>
     ensures inside { OnOk result (at + 1 ≤ length src.now) }
 {
     let code = byte_at(src, at)?;
-    match PolicyCode::from_code(code) {
-        Some(policy) => Ok(policy),
-        None => Err(Refusal::HeaderRange { place: at }),
-    }
+    PolicyCode::try_from(code).map_err(|_| Refusal::HeaderRange { place: at })
 }
 
 pub(crate) fn mode_at(src: &[u8], at: usize) -> Result<Mode, Refusal>
@@ -58,10 +55,7 @@ pub(crate) fn mode_at(src: &[u8], at: usize) -> Result<Mode, Refusal>
     ensures inside { OnOk result (at + 1 ≤ length src.now) }
 {
     let code = byte_at(src, at)?;
-    match Mode::from_code(code) {
-        Some(mode) => Ok(mode),
-        None => Err(Refusal::HeaderRange { place: at }),
-    }
+    Mode::try_from(code).map_err(|_| Refusal::HeaderRange { place: at })
 }
 
 pub(crate) fn count_at(src: &[u8], at: usize) -> Result<usize, Refusal>
