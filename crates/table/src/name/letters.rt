@@ -48,6 +48,7 @@ impl Name {
     {
         &self.bytes[..self.len]
     }
+
     /// The letters as text.
     pub fn as_str(&self) -> &str
         ensures { result.now ≡ letters self.now }
