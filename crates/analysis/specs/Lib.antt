@@ -7,3 +7,4 @@ pub mod Reaches
 pub mod Busy
 pub mod Promised
 pub mod Analysed
+pub mod Shown

@@ -5,6 +5,7 @@ pub mod busy;
 pub mod judging;
 pub mod lanes;
 pub mod rows;
+mod shown;
 pub mod window;
 
 ghost use Rattle.analysis.specs.Judged.{Judged};

@@ -8,3 +8,4 @@ pub mod Advanced
 pub mod Replies
 pub mod Replayed
 pub mod Oldest
+pub mod Shown

@@ -6,6 +6,7 @@ mod line;
 pub mod replaying;
 pub mod replies;
 pub mod run;
+mod shown;
 mod stage;
 mod station;
 #[cfg(test)]

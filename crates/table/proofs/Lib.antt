@@ -1,3 +1,4 @@
 pub mod Every
 pub mod Tables
 pub mod Ranges
+pub mod Letters

@@ -17,3 +17,4 @@ pub struct Name {
 }
 
 pub mod letters;
+mod shown;

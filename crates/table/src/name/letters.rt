@@ -48,4 +48,11 @@ impl Name {
     {
         &self.bytes[..self.len]
     }
+
+    /// The letters as text.
+    pub fn as_str(&self) -> &str
+        ensures { result.now ≡ letters self.now }
+    {
+        str::from_utf8(self.as_bytes()).unwrap()
+    }
 }
