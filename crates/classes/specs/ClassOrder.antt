@@ -1,8 +1,16 @@
 -- The order by class, then by release plus offset: the lower class is always ahead; within a class the smaller sum is, and a tie goes to the lower task number.
-use Rattle.std.specs.Prelude.{ℕ, min, true, false, cond, List, nat_lt, slice_index}
+use Rattle.std.specs.Prelude.{ℕ, min, true, false, cond, List, map, nat_lt, slice_index}
+use Rattle.classes.specs.declared.Member.{Member}
 use Rattle.policy.specs.Order.{Order}
 use Rattle.policy.specs.Orders.{keyed_order}
 use Rattle.policy.specs.declared.job.Reach.TheVariants.{Always, Never}
+
+-- the classes and the offsets of members, in their order
+abbrev pub classes_of : List Member → List ℕ
+classes_of members = map (λ (m : Member). m.class) members
+
+abbrev pub offsets_of : List Member → List ℕ
+offsets_of members = map (λ (m : Member). m.offset) members
 
 -- the number that a list has for a task
 abbrev pub number_at : List ℕ → ℕ → ℕ

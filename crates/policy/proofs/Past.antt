@@ -6,9 +6,6 @@ use Rattle.table.specs.Sporadic.{Sporadic}
 use Rattle.table.specs.Rules.{TaskSet, Checked, task_count, task_at}
 use Rattle.table.proofs.Ranges.{task_ranges}
 
-pub rank_past : (s : TaskSet) (i : ℕ) → task_count s ≤ i → 1 ≡ (task_at s i).rank
-rank_past s i h = sym (ap (λ (t : Sporadic). t.rank) (get_or-eq_default s.tasks _ {n = i} h))
-
 pub deadline_past : (s : TaskSet) (i : ℕ) → task_count s ≤ i → 1 ≡ (task_at s i).deadline
 deadline_past s i h = sym (ap (λ (t : Sporadic). t.deadline) (get_or-eq_default s.tasks _ {n = i} h))
 

@@ -14,6 +14,7 @@ use table::{PolicyCode, Table};
 #[derive(Clone, Copy)]
 pub struct ByCode;
 
+// Two matches: the policies are four types, and a function may not hand one of them out as a dyn value.
 impl Policy for ByCode {
     ghost meaning = { λ _ s. chosen_order s };
 

@@ -12,6 +12,7 @@ use table::Table;
 #[derive(Clone, Copy)]
 pub struct Deadline;
 
+// What it shares with Arrival is in `keys`; an impl for every order by a key would overlap with those of Fixed and Bands.
 impl Policy for Deadline {
     ghost meaning = { λ _ s. deadline_order s };
 

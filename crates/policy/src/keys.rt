@@ -20,23 +20,20 @@ fn key(release: i64, offset: u32) -> i64
 fn key_ahead(task: usize, mine: i64, rival: usize, other: i64) -> bool
     ensures { result ≡ key_ahead task mine rival other }
 {
-    if task < rival {
-        mine <= other
-    } else {
-        mine < other
-    }
+    (mine, task) < (other, rival)
 }
 
 // Whether the first job, whose task adds m, has the key ahead of the second, whose task adds n.
 pub(crate) fn keyed_ahead(table: &Table, first: Job, m: u32, second: Job, n: u32) -> bool
     ensures { result ≡ (comparable (content table.now) first second && key_ahead first.task (first.release +ℤ pos m) second.task (second.release +ℤ pos n)) }
 {
-    if !comparable(table, first, second) {
-        return false;
-    }
-    let mine = key(first.release, m);
-    let other = key(second.release, n);
-    key_ahead(first.task, mine, second.task, other)
+    comparable(table, first, second)
+        && key_ahead(
+            first.task,
+            key(first.release, m),
+            second.task,
+            key(second.release, n),
+        )
 }
 
 // The reach from a task that adds m to one that adds n.
@@ -44,7 +41,7 @@ pub(crate) fn keyed_reach(table: &Table, from: usize, m: u32, to: usize, n: u32)
     requires { (m ≤ 65535) × (n ≤ 65535) }
     ensures { result ≡ settled_reach (content table.now) from to (Within (key_reach from m to n)) }
 {
-    let tie = if from < to { 1 } else { 0 };
+    let tie = i32::from(from < to);
     let number = m as i32 - n as i32 - tie;
     settled_reach(table, from, to, Reach::Within(number))
 }

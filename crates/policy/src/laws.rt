@@ -7,6 +7,4 @@ use crate::ordering::Policy;
 /// Does nothing; its contract says that the policy's order keeps every law, for every task set that a table can hold.
 pub fn laws_hold<P: Policy>(policy: &P)
     ensures { (s : TaskSet) → Checked s → Lawful s (P.meaning policy.now s) }
-{
-    let _ = policy;
-}
+{}

@@ -2,42 +2,29 @@
 ghost use Rattle.std.specs.Prelude.{◌≡◌, Some, None};
 ghost use Rattle.table.specs.Model.{content};
 ghost use Rattle.table.specs.Rules.{task_count};
-ghost use Rattle.policy.specs.declared.job.Reach.TheVariants.{Always, Never, Within};
 
 use crate::{Arrival, Deadline, Fixed, Job, Policy, Reach, pile_ahead};
 use std::test::Fail;
-use table::{Mode, Name, PolicyCode, Table, Task};
+use table::{Mode, PolicyCode, Table, Task};
+
+fn task(deadline: u32, rank: u8) -> Task {
+    Task {
+        period: 10,
+        deadline,
+        rank,
+        ..Task::fresh()
+    }
+}
 
 // Three tasks with deadlines 8, 10 and 10, and ranks 3, 2 and 1.
 fn three() -> Option<Table>
     ensures { elim result [ Some t ↦ task_count (content t) ≡ 3 | None ↦ Unit {0} ] }
 {
-    let first = Task {
-        cost: 1,
-        period: 10,
-        deadline: 8,
-        rank: 3,
-        name: Name::single(),
-    };
-    let second = Task {
-        cost: 1,
-        period: 10,
-        deadline: 10,
-        rank: 2,
-        name: Name::single(),
-    };
-    let third = Task {
-        cost: 1,
-        period: 10,
-        deadline: 10,
-        rank: 1,
-        name: Name::single(),
-    };
     Table::new(
         PolicyCode::Fixed,
         Mode::Preemptive,
         0,
-        &[first, second, third],
+        &[task(8, 3), task(10, 2), task(10, 1)],
     )
 }
 
@@ -84,24 +71,14 @@ fn outside(rt: HostRuntime) -> Result<(), Fail> {
     Ok(())
 }
 
-fn number(reach: Reach) -> Option<i32>
-    ensures { elim reach [ Within y ↦ result ≡ Some y | Always ↦ result ≡ None | Never ↦ result ≡ None ] }
-{
-    match reach {
-        Reach::Within(y) => Some(y),
-        Reach::Always => None,
-        Reach::Never => None,
-    }
-}
-
 #[test]
 fn reaches(rt: HostRuntime) -> Result<(), Fail> {
     let Some(table) = three() else {
         return Err(Fail::new("no table"));
     };
-    assert_eq!(rt; number(Deadline.reach(&table, 1, 0)), Some(2));
-    assert_eq!(rt; number(Deadline.reach(&table, 0, 1)), Some(-3));
-    assert_eq!(rt; number(Deadline.reach(&table, 2, 2)), Some(0));
-    assert_eq!(rt; number(Deadline.reach(&table, 3, 3)), None);
+    assert_eq!(rt; Deadline.reach(&table, 1, 0), Reach::Within(2));
+    assert_eq!(rt; Deadline.reach(&table, 0, 1), Reach::Within(-3));
+    assert_eq!(rt; Deadline.reach(&table, 2, 2), Reach::Within(0));
+    assert_eq!(rt; Deadline.reach(&table, 3, 3), Reach::Never);
     Ok(())
 }

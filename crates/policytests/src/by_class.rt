@@ -1,10 +1,10 @@
 //! The policy of `classes` in both modes.
 use crate::playing::{BLANK, attains, first_difference, judged, looked, other_row, task};
 use analysis::Row;
-use classes::Classes;
+use classes::{Classes, Member};
 use dispatch::Run;
 use std::test::Fail;
-use table::{Mode, PolicyCode, Table};
+use table::{MOST_TASKS, Mode, PolicyCode, Table};
 
 // Task 0 has the given deadline.
 fn four(mode: Mode, deadline: u32) -> Option<Table> {
@@ -19,15 +19,24 @@ fn four(mode: Mode, deadline: u32) -> Option<Table> {
 
 // Task 2 is of class 0, tasks 0 and 1 of class 1 with offsets 5 and 2, task 3 of class 2. The offset 9 of task 2 decides nothing: it is alone in its class.
 fn policy() -> Classes {
-    let mut classes = [0; 24];
-    let mut offsets = [0; 24];
-    classes[0] = 1;
-    classes[1] = 1;
-    classes[3] = 2;
-    offsets[0] = 5;
-    offsets[1] = 2;
-    offsets[2] = 9;
-    Classes::new(classes, offsets)
+    let mut members = [Member::default(); MOST_TASKS];
+    members[0] = Member {
+        class: 1,
+        offset: 5,
+    };
+    members[1] = Member {
+        class: 1,
+        offset: 2,
+    };
+    members[2] = Member {
+        class: 0,
+        offset: 9,
+    };
+    members[3] = Member {
+        class: 2,
+        offset: 0,
+    };
+    Classes::new(members)
 }
 
 // 0: task 0 is of a lower class than task 3.

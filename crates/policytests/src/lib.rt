@@ -3,7 +3,7 @@
 
 ghost use Rattle.std.specs.Prelude.{IfOk, OnOk};
 ghost use Rattle.table.specs.Model.{content};
-ghost use Rattle.classes.specs.ClassOrder.{number_at, offset_at, class_order};
+ghost use Rattle.classes.specs.ClassOrder.{classes_of, offsets_of, number_at, offset_at, class_order};
 ghost use Rattle.analysis.specs.Judged.{Judged};
 ghost use Rattle.analysis.specs.Promised.{RowsBound, RowsAttained, VerdictExact};
 ghost use Rattle.dispatch.specs.Replayed.{answers_in};
@@ -31,13 +31,13 @@ pub fn judged_replay_by_class(
     rows: &mut [Row],
     steps: &mut [Step],
 ) -> Result<Judgement, Refusal>
-    ensures judged { Judged (content table.now) (class_order (number_at policy.classes) (offset_at policy.offsets)) rows.old rows.new result }
-    ensures replayed { Replayed (content table.now) (class_order (number_at policy.classes) (offset_at policy.offsets)) steps.old steps.new result }
+    ensures judged { Judged (content table.now) (class_order (number_at (classes_of policy.members)) (offset_at (offsets_of policy.members))) rows.old rows.new result }
+    ensures replayed { Replayed (content table.now) (class_order (number_at (classes_of policy.members)) (offset_at (offsets_of policy.members))) steps.old steps.new result }
     ensures within { OnOk result (WithinRows rows.new (answers_in steps.new)) }
     ensures on_time { IfOk result (λ j. OnTime (content table.now) j.verdict (answers_in steps.new)) }
-    ensures never_longer { OnOk result (RowsBound (content table.now) (class_order (number_at policy.classes) (offset_at policy.offsets)) rows.new) }
-    ensures attained { IfOk result (λ j. RowsAttained (content table.now) (class_order (number_at policy.classes) (offset_at policy.offsets)) rows.new j.verdict) }
-    ensures late_exactly { IfOk result (λ j. VerdictExact (content table.now) (class_order (number_at policy.classes) (offset_at policy.offsets)) j.verdict) }
+    ensures never_longer { OnOk result (RowsBound (content table.now) (class_order (number_at (classes_of policy.members)) (offset_at (offsets_of policy.members))) rows.new) }
+    ensures attained { IfOk result (λ j. RowsAttained (content table.now) (class_order (number_at (classes_of policy.members)) (offset_at (offsets_of policy.members))) rows.new j.verdict) }
+    ensures late_exactly { IfOk result (λ j. VerdictExact (content table.now) (class_order (number_at (classes_of policy.members)) (offset_at (offsets_of policy.members))) j.verdict) }
 {
     judged_replay(policy, table, rows, steps)
 }

@@ -1,11 +1,11 @@
 //! Piles of three bands in both modes: tasks 0 and 1, tasks 2 and 3, and the rest.
 use crate::playing::{BLANK, attains, first_difference, judged, looked, other_row, task};
 use analysis::Row;
-use classes::Classes;
+use classes::{Classes, Member};
 use dispatch::Run;
 use policy::{Arrival, Bands, Deadline, Fixed};
 use std::test::Fail;
-use table::{Mode, PolicyCode, Table};
+use table::{MOST_TASKS, Mode, PolicyCode, Table};
 
 fn six(mode: Mode) -> Option<Table> {
     let tasks = [
@@ -26,10 +26,10 @@ fn shipped() -> Bands<Fixed, Bands<Deadline, Arrival>> {
 
 // The same, but in the middle band task 2 is always before task 3, by its lower class.
 fn mixed() -> Bands<Fixed, Bands<Classes, Arrival>> {
-    let mut classes = [0; 24];
-    classes[2] = 3;
-    classes[3] = 4;
-    let middle = Classes::new(classes, [0; 24]);
+    let mut members = [Member::default(); MOST_TASKS];
+    members[2].class = 3;
+    members[3].class = 4;
+    let middle = Classes::new(members);
     Bands::new(2, Fixed, Bands::new(4, middle, Arrival))
 }
 

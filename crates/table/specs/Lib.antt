@@ -5,4 +5,3 @@ pub mod Rules
 pub mod Content
 pub mod Model
 pub mod Refusals
-pub mod Among

@@ -1,5 +1,6 @@
 -- A sporadic task as the rules speak of it, and the range of each of its fields.
-use Rattle.std.specs.Prelude.{ℕ, ◌*◌, Bool, true, ◌&&◌, ◌||◌, List, [], ◌∷◌, length, nat_le}
+use Rattle.std.specs.Prelude.{ℕ, ◌*◌, Bool, ◌&&◌, ◌||◌, List, length, nat_le}
+use Rattle.std.specs.List.{list_all}
 
 -- worst-case execution time C, least distance T of releases, relative deadline D, rank, and the letters of the name
 pub record Sporadic : Type 0 where
@@ -14,8 +15,7 @@ within low high x = nat_le low x && nat_le x high
 
 -- a test of each element
 abbrev pub every : {X : Type 0} → (X → Bool) → List X → Bool
-every p [] = true
-every p (x ∷ xs) = p x && every p xs
+every = list_all
 
 -- A-Z and 0-9
 abbrev pub name_byte : ℕ → Bool

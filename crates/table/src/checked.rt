@@ -4,16 +4,17 @@ ghost use Rattle.table.specs.Rules.{follows_rules};
 ghost use Rattle.table.specs.Content.{sporadic};
 
 use crate::kinds::{Mode, PolicyCode};
-use crate::task::Task;
+use crate::task::{MOST_TASKS, Task};
 
 /// A table of 1 to 24 tasks: the first `count` of `tasks`.
+// A buffer with its length, as there is no heap. No `Model`: the task set forgets the places behind `count`, so it gives no table back, and `Copy` needs that.
 #[derive(Clone, Copy)]
 pub struct Table {
     policy: PolicyCode,
     mode: Mode,
     band: usize,
     count: usize,
-    tasks: [Task; 24],
+    tasks: [Task; MOST_TASKS],
     ghost room: { length tasks ≡ 24 },
     ghost few: { count ≤ 24 },
     ghost rules: { follows_rules policy band (map sporadic (take count tasks)) ≡ true },

@@ -59,6 +59,7 @@ impl TryFrom<u8> for Mode {
 
 impl Mode {
     /// The word that a report prints.
+    // Bytes, not `Display`: a report is written into lent bytes, and its clauses need the word's bytes.
     pub fn word(self) -> &'static [u8]
         ensures { result.now ≡ mode_word self }
     {
@@ -88,6 +89,7 @@ impl TryFrom<u8> for PolicyCode {
 
 impl PolicyCode {
     /// The word that a report prints.
+    // Bytes, not `Display`: a report is written into lent bytes, and its clauses need the word's bytes.
     pub fn word(self) -> &'static [u8]
         ensures { result.now ≡ policy_word self }
     {

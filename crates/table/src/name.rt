@@ -2,10 +2,14 @@
 ghost use Rattle.std.specs.Prelude.{◌≡◌, ◌≤◌, true, length, take};
 ghost use Rattle.table.specs.Sporadic.{name_in_range};
 
+/// The most letters that a name has.
+pub(crate) const MOST_LETTERS: usize = 8;
+
 /// A name that keeps its rules: the first `len` of `bytes`.
+// A buffer with its length, as there is no heap. No `Model`: the letters forget the bytes behind `len`, so they give no name back, and `Copy` needs that.
 #[derive(Clone, Copy)]
 pub struct Name {
-    bytes: [u8; 8],
+    bytes: [u8; MOST_LETTERS],
     len: usize,
     ghost room: { length bytes ≡ 8 },
     ghost few: { len ≤ 8 },

@@ -52,25 +52,25 @@ pub enum Refusal {
 
 impl Refusal {
     /// The number of the refusal, 1 to 15.
+    // A method, not `u8::from`: it is one of the five columns of the list of refusals, and two refusals share a number.
     pub fn number(self) -> u8
         ensures { result ≡ refusal_number self }
     {
         match self {
-            Refusal::Ended { place: _ } => 1,
-            Refusal::WrongMark { place: _ } => 2,
-            Refusal::HeaderRange { place: _ } => 3,
-            Refusal::TaskRange { place: _ } => 4,
-            Refusal::RankTaken { place: _ } => 5,
-            Refusal::NameByte { place: _ } => 6,
-            Refusal::Trailing { place: _ } => 7,
+            Refusal::Ended { .. } => 1,
+            Refusal::WrongMark { .. } => 2,
+            Refusal::HeaderRange { .. } => 3,
+            Refusal::TaskRange { .. } => 4,
+            Refusal::RankTaken { .. } => 5,
+            Refusal::NameByte { .. } => 6,
+            Refusal::Trailing { .. } => 7,
             Refusal::FewRows => 8,
             Refusal::ShortOutput => 9,
             Refusal::NoBusyPeriod => 10,
-            Refusal::RankUnfilled { rank: _ } => 11,
-            Refusal::NoTaskToJudge { task: _ } => 12,
-            Refusal::NoTaskToRun { task: _ } => 12,
-            Refusal::TooSoon { task: _ } => 13,
-            Refusal::QueueFull { task: _ } => 14,
+            Refusal::RankUnfilled { .. } => 11,
+            Refusal::NoTaskToJudge { .. } | Refusal::NoTaskToRun { .. } => 12,
+            Refusal::TooSoon { .. } => 13,
+            Refusal::QueueFull { .. } => 14,
             Refusal::TimeOver => 15,
         }
     }
@@ -80,22 +80,22 @@ impl Refusal {
         ensures { result ≡ refusal_layer self }
     {
         match self {
-            Refusal::Ended { place: _ } => Layer::Reading,
-            Refusal::WrongMark { place: _ } => Layer::Reading,
-            Refusal::HeaderRange { place: _ } => Layer::Reading,
-            Refusal::TaskRange { place: _ } => Layer::Reading,
-            Refusal::RankTaken { place: _ } => Layer::Reading,
-            Refusal::NameByte { place: _ } => Layer::Reading,
-            Refusal::Trailing { place: _ } => Layer::Reading,
-            Refusal::FewRows => Layer::Judging,
-            Refusal::ShortOutput => Layer::Judging,
-            Refusal::NoBusyPeriod => Layer::Judging,
-            Refusal::RankUnfilled { rank: _ } => Layer::Judging,
-            Refusal::NoTaskToJudge { task: _ } => Layer::Judging,
-            Refusal::NoTaskToRun { task: _ } => Layer::Running,
-            Refusal::TooSoon { task: _ } => Layer::Running,
-            Refusal::QueueFull { task: _ } => Layer::Running,
-            Refusal::TimeOver => Layer::Running,
+            Refusal::Ended { .. }
+            | Refusal::WrongMark { .. }
+            | Refusal::HeaderRange { .. }
+            | Refusal::TaskRange { .. }
+            | Refusal::RankTaken { .. }
+            | Refusal::NameByte { .. }
+            | Refusal::Trailing { .. } => Layer::Reading,
+            Refusal::FewRows
+            | Refusal::ShortOutput
+            | Refusal::NoBusyPeriod
+            | Refusal::RankUnfilled { .. }
+            | Refusal::NoTaskToJudge { .. } => Layer::Judging,
+            Refusal::NoTaskToRun { .. }
+            | Refusal::TooSoon { .. }
+            | Refusal::QueueFull { .. }
+            | Refusal::TimeOver => Layer::Running,
         }
     }
 
@@ -104,13 +104,13 @@ impl Refusal {
         ensures { result ≡ refusal_place self }
     {
         match self {
-            Refusal::Ended { place } => Some(place),
-            Refusal::WrongMark { place } => Some(place),
-            Refusal::HeaderRange { place } => Some(place),
-            Refusal::TaskRange { place } => Some(place),
-            Refusal::RankTaken { place } => Some(place),
-            Refusal::NameByte { place } => Some(place),
-            Refusal::Trailing { place } => Some(place),
+            Refusal::Ended { place }
+            | Refusal::WrongMark { place }
+            | Refusal::HeaderRange { place }
+            | Refusal::TaskRange { place }
+            | Refusal::RankTaken { place }
+            | Refusal::NameByte { place }
+            | Refusal::Trailing { place } => Some(place),
             _ => None,
         }
     }
@@ -130,10 +130,10 @@ impl Refusal {
         ensures { result ≡ refusal_task self }
     {
         match self {
-            Refusal::NoTaskToJudge { task } => Some(task),
-            Refusal::NoTaskToRun { task } => Some(task),
-            Refusal::TooSoon { task } => Some(task),
-            Refusal::QueueFull { task } => Some(task),
+            Refusal::NoTaskToJudge { task }
+            | Refusal::NoTaskToRun { task }
+            | Refusal::TooSoon { task }
+            | Refusal::QueueFull { task } => Some(task),
             _ => None,
         }
     }

@@ -9,32 +9,39 @@ use super::Table;
 use crate::kinds::{Mode, PolicyCode};
 use crate::task::{MOST_TASKS, Task};
 
+// The longest C; the longest T and D.
+const MOST_COST: u32 = 4096;
+
+const MOST_TICKS: u32 = 65535;
+
+// Each of these rules is one line; a shared function of the largest number would be the same line at each call.
+
 /// Whether C may be this: 1 to 4,096.
 pub fn cost_in_range(cost: u32) -> bool
     ensures { result ≡ cost_in_range cost }
 {
-    1 <= cost && cost <= 4096
+    (1..=MOST_COST).contains(&cost)
 }
 
 /// Whether T may be this: 1 to 65,535.
 pub fn period_in_range(period: u32) -> bool
     ensures { result ≡ period_in_range period }
 {
-    1 <= period && period <= 65535
+    (1..=MOST_TICKS).contains(&period)
 }
 
 /// Whether D may be this beside T: 1 to 65,535, and at most 8 times T.
 pub fn deadline_in_range(period: u32, deadline: u32) -> bool
     ensures { result ≡ deadline_in_range period deadline }
 {
-    1 <= deadline && deadline <= 65535 && u64::from(deadline) <= 8 * u64::from(period)
+    (1..=MOST_TICKS).contains(&deadline) && u64::from(deadline) <= 8 * u64::from(period)
 }
 
 /// Whether a rank may be this among so many tasks: 1 to their number.
 pub fn rank_in_range(count: usize, rank: u8) -> bool
     ensures { result ≡ rank_in_range count rank }
 {
-    1 <= rank && usize::from(rank) <= count
+    (1..=count).contains(&usize::from(rank))
 }
 
 /// Whether the band fits the policy: 1 to one less than the tasks under Bands, 0 otherwise.
@@ -42,29 +49,16 @@ pub fn band_in_range(policy: PolicyCode, count: usize, band: usize) -> bool
     ensures { result ≡ band_in_range policy count band }
 {
     match policy {
-        PolicyCode::Bands => 1 <= band && band <= count.saturating_sub(1),
-        PolicyCode::Fixed => band == 0,
-        PolicyCode::Deadline => band == 0,
-        PolicyCode::Arrival => band == 0,
+        PolicyCode::Bands => (1..count).contains(&band),
+        PolicyCode::Fixed | PolicyCode::Deadline | PolicyCode::Arrival => band == 0,
     }
-}
-
-fn has_rank(task: &Task, rank: u8) -> bool
-    ensures { result ≡ (task.now.rank == rank) }
-{
-    task.rank == rank
 }
 
 /// Whether no task of these has the rank.
 pub fn rank_is_free(rank: u8, tasks: &[Task]) -> bool
     ensures { result ≡ rank_free rank (map sporadic tasks.now) }
 {
-    for task in tasks {
-        if has_rank(task, rank) {
-            return false;
-        }
-    }
-    true
+    tasks.iter().all(|task| task.rank != rank)
 }
 
 fn task_in_range(count: usize, task: &Task) -> bool
@@ -79,34 +73,27 @@ fn task_in_range(count: usize, task: &Task) -> bool
 fn tasks_in_range(count: usize, tasks: &[Task]) -> bool
     ensures { result ≡ every (task_in_range count) (map sporadic tasks.now) }
 {
-    for task in tasks {
-        if !task_in_range(count, task) {
-            return false;
-        }
-    }
-    true
+    tasks.iter().all(|task| task_in_range(count, task))
 }
 
 fn ranks_differ(tasks: &[Task]) -> bool
     ensures { result ≡ ranks_differ (map sporadic tasks.now) }
 {
-    for at in 0..tasks.len() {
-        let rank = tasks[at].rank;
-        if !rank_is_free(rank, &tasks[at + 1..]) {
-            return false;
-        }
-    }
-    true
+    tasks
+        .iter()
+        .enumerate()
+        .all(|(at, task)| rank_is_free(task.rank, &tasks[at + 1..]))
 }
 
 fn follows_rules(policy: PolicyCode, band: usize, tasks: &[Task]) -> bool
-    ensures { result ≡ follows_rules policy band (map sporadic tasks.now) }
+    ensures rules { result ≡ follows_rules policy band (map sporadic tasks.now) }
+    ensures few { result ≡ true → length tasks.now ≤ 24 }
 {
     let count = tasks.len();
-    if count < 1 || MOST_TASKS < count {
-        return false;
-    }
-    band_in_range(policy, count, band) & tasks_in_range(count, tasks) & ranks_differ(tasks)
+    (1..=MOST_TASKS).contains(&count)
+        && band_in_range(policy, count, band)
+        && tasks_in_range(count, tasks)
+        && ranks_differ(tasks)
 }
 
 impl Table {
@@ -131,9 +118,7 @@ impl Table {
             return None;
         }
         let mut room = [Task::fresh(); MOST_TASKS];
-        for (at, task) in tasks.iter().enumerate() {
-            room[at] = *task;
-        }
+        room[..tasks.len()].copy_from_slice(tasks);
         Some(Table {
             policy,
             mode,

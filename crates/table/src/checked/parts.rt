@@ -1,30 +1,11 @@
 //! What a table says.
 ghost use Rattle.std.specs.Prelude.{◌≡◌, map, length};
-ghost use Rattle.table.specs.Among.{Among};
 ghost use Rattle.table.specs.Content.{sporadic};
 ghost use Rattle.table.specs.Model.{content, Found};
 
 use super::Table;
 use crate::kinds::{Mode, PolicyCode};
 use crate::task::Task;
-
-// How many tasks these are.
-fn number_of(tasks: &[Task]) -> usize
-    ensures { result ≡ length (map sporadic tasks.now) }
-{
-    tasks.len()
-}
-
-// The task of this number among these.
-fn task_among(tasks: &[Task], number: usize) -> Option<Task>
-    ensures { Among (map sporadic tasks.now) number result }
-{
-    if number < tasks.len() {
-        Some(tasks[number])
-    } else {
-        None
-    }
-}
 
 impl Table {
     /// The policy that the table asks for.
@@ -52,20 +33,20 @@ impl Table {
     pub fn count(&self) -> usize
         ensures { result ≡ length (content self.now).tasks }
     {
-        number_of(self.tasks())
+        self.tasks().len()
     }
 
     /// The tasks, in table order; task numbers count from 0.
     pub fn tasks(&self) -> &[Task]
         ensures { map sporadic result.now ≡ (content self.now).tasks }
     {
-        &self.tasks[0..self.count]
+        &self.tasks[..self.count]
     }
 
     /// The task of this number; none where the table has no such task.
     pub fn task(&self, number: usize) -> Option<Task>
         ensures { Found (content self.now) number result }
     {
-        task_among(self.tasks(), number)
+        self.tasks().get(number).copied()
     }
 }

@@ -3,24 +3,19 @@ ghost use Rattle.std.specs.Prelude.{◌≡◌, ℕ, [], ◌∷◌, length, codes
 ghost use Rattle.table.specs.Content.{letters, Named};
 ghost use Rattle.table.specs.Sporadic.{name_byte, name_in_range, every};
 
-use super::Name;
+use super::{MOST_LETTERS, Name};
 
 /// Whether a byte may stand in a name: A-Z and 0-9.
 pub fn is_name_byte(byte: u8) -> bool
     ensures { result ≡ name_byte byte }
 {
-    (65 <= byte && byte <= 90) || (48 <= byte && byte <= 57)
+    matches!(byte, b'A'..=b'Z' | b'0'..=b'9')
 }
 
 fn all_name_bytes(bytes: &[u8]) -> bool
     ensures { result ≡ every name_byte bytes.now }
 {
-    for byte in bytes {
-        if !is_name_byte(*byte) {
-            return false;
-        }
-    }
-    true
+    bytes.iter().all(|&byte| is_name_byte(byte))
 }
 
 impl Name {
@@ -29,13 +24,11 @@ impl Name {
         ensures { Named bytes.now result }
     {
         let len = bytes.len();
-        if len < 1 || 8 < len || !all_name_bytes(bytes) {
+        if len < 1 || MOST_LETTERS < len || !all_name_bytes(bytes) {
             return None;
         }
-        let mut room = [0u8; 8];
-        for (at, byte) in bytes.iter().enumerate() {
-            room[at] = *byte;
-        }
+        let mut room = [0u8; MOST_LETTERS];
+        room[..len].copy_from_slice(bytes);
         Some(Name { bytes: room, len })
     }
 
@@ -44,7 +37,7 @@ impl Name {
         ensures { letters result ≡ codes "A" }
     {
         Name {
-            bytes: [65, 0, 0, 0, 0, 0, 0, 0],
+            bytes: [b'A', 0, 0, 0, 0, 0, 0, 0],
             len: 1,
         }
     }
@@ -53,6 +46,6 @@ impl Name {
     pub fn as_bytes(&self) -> &[u8]
         ensures { result.now ≡ letters self.now }
     {
-        &self.bytes[0..self.len]
+        &self.bytes[..self.len]
     }
 }

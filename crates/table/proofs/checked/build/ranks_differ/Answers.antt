@@ -1,17 +1,14 @@
-use Rattle.std.proofs.Common.{◌+◌, map, get_or, sym, ap, ◌∙◌}
+use Rattle.std.proofs.Common.{rules, tests, ◌+◌, ◌-◌, map, length, take, drop, ◌∙◌}
+use Rattle.std.proofs.lemmas.Iterator.{YieldsList-from_slice}
+use Rattle.std.proofs.lemmas.Iterator.Consumers.{YieldsList-from_enumerate}
+use Rattle.std.proofs.lemmas.Iterator.Search.{all_from_yields_List}
 use Rattle.table.specs.Content.{sporadic}
-use Rattle.table.specs.Rules.{ranks_differ}
-use Rattle.std.proofs.lemmas.List.{drop_all}
-use Rattle.table.proofs.Every.{rest_free, ranks_step, ranks_stop}
+use Rattle.table.specs.Rules.{rank_free}
+use Rattle.table.proofs.Every.{ranks_along}
 use Rattle.table.proofs.checked.build.ranks_differ.Goals as goal
 
-pub returns-then-not-rank_is_free : goal.returns-then-not-rank_is_free
-returns-then-not-rank_is_free c =
-    sym (ranks_stop c.args.tasks.now c.loop-at.at c.index-tasks-at.result c.loop-at-test.true c.loop-at.invariant (rest_free (get_or c.args.tasks.now c.loop-at.at c.index-tasks-at.result).rank c.args.tasks.now (c.loop-at.at + 1) (sym c.rank_is_free.ensures) ∙ c.if-not-rank_is_free.true))
-
-pub loop-at-preserved : goal.loop-at-preserved
-loop-at-preserved c =
-    ranks_step c.args.tasks.now c.loop-at.at c.index-tasks-at.result c.loop-at-test.true c.loop-at.invariant (rest_free (get_or c.args.tasks.now c.loop-at.at c.index-tasks-at.result).rank c.args.tasks.now (c.loop-at.at + 1) (sym c.rank_is_free.ensures) ∙ c.if-not-rank_is_free.false)
-
 pub returns : goal.returns
-returns c = sym (c.loop-at.invariant ∙ ap (λ xs. ranks_differ (map sporadic xs)) (drop_all c.loop-at.at c.args.tasks.now c.loop-at-test.false))
+returns c =
+    let ts = c.args.tasks.now in
+    all_from_yields_List (λ p. rank_free p.1.rank (map sporadic (take (length ts - (p.0 + 1)) (drop (p.0 + 1) ts)))) _ _ c.all.result c.all.ensures.ran (YieldsList-from_enumerate (YieldsList-from_slice ts cc) cc) (λ x b q k. search (rules, tests))
+    ∙ ranks_along ts

@@ -1,22 +1,12 @@
-use Rattle.std.proofs.Common.{Bool, sym, ap, ◌∙◌, take_all}
+use Rattle.std.proofs.Common.{rules, tests, sym, ◌∙◌}
+use Rattle.std.proofs.lemmas.Iterator.{YieldsList-from_slice}
+use Rattle.std.proofs.lemmas.Iterator.Search.{all_from_yields_List}
+use Rattle.std.proofs.lemmas.List.Folds.{list_all-map}
 use Rattle.table.specs.Content.{sporadic}
-use Rattle.table.specs.Sporadic.{every, task_in_range}
-use Rattle.table.specs.declared.task.Task.{Task}
-use Rattle.table.proofs.Every.{every_step, every_stop, every_map}
+use Rattle.table.specs.Sporadic.{task_in_range}
 use Rattle.table.proofs.checked.build.tasks_in_range.Goals as goal
-
-pub returns-then-not-task_in_range : goal.returns-then-not-task_in_range
-returns-then-not-task_in_range c =
-    let n = c.args.count in
-    sym (every_map (task_in_range n) sporadic c.args.tasks.now ∙ every_stop (λ t. task_in_range n (sporadic t)) c.args.tasks.now c.loop-task.task-index c.task-item.result c.loop-task-test.true c.task-item.is (sym c.if-not-task_in_range.ensures))
-
-pub loop-task-preserved : goal.loop-task-preserved
-loop-task-preserved c =
-    let n = c.args.count in
-    every_step (λ t. task_in_range n (sporadic t)) c.args.tasks.now c.loop-task.task-index c.task-item.result c.loop-task-test.true c.task-item.is c.loop-task.invariant (sym c.if-not-task_in_range.ensures)
 
 pub returns : goal.returns
 returns c =
-    let n = c.args.count in
-    let p : Task → Bool = λ t. task_in_range n (sporadic t) in
-    sym (every_map (task_in_range n) sporadic c.args.tasks.now ∙ ap (every p) (sym (take_all c.loop-task.task-index c.args.tasks.now c.loop-task-test.false)) ∙ c.loop-task.invariant)
+    all_from_yields_List (λ t. task_in_range c.args.count (sporadic t)) _ _ c.all.result c.all.ensures.ran (YieldsList-from_slice c.args.tasks.now cc) (λ x b q k. search (rules, tests))
+    ∙ sym (list_all-map (task_in_range c.args.count) sporadic c.args.tasks.now)
