@@ -19,10 +19,8 @@ fn fill(rt: &HostRuntime, bytes: &mut [u8], most: usize) -> io::Result<usize>
 {
     let end = most.min(bytes.len());
     let mut filled = 0;
-    for _ in 0..INPUT_BYTES {
-        if filled >= end {
-            break;
-        }
+    // A loop: `read_exact` fails where the input is shorter, and `read_to_end` wants the heap.
+    while filled < end {
         let got = rt.stdin().read(&mut bytes[filled..end])?;
         if got == 0 {
             break;
@@ -46,7 +44,7 @@ pub fn read_input(rt: &HostRuntime, buffer: &mut [u8]) -> io::Result<usize>
 pub fn front(bytes: &[u8], len: usize) -> &[u8]
     ensures { result.now ≡ take (min len (length bytes.now)) bytes.now }
 {
-    &bytes[0..len.min(bytes.len())]
+    bytes.get(..len).unwrap_or(bytes)
 }
 
 /// Prints the line that `report::put_refusal` writes.

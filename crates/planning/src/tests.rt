@@ -11,16 +11,12 @@ const OVERLOADED: [u8; 30] =
 fn answers(input: &[u8], room: usize, text: &[u8]) -> bool {
     let mut out = [46u8; 1024];
     let most = room.min(1024);
-    let len = answer(input, &mut out[0..most]);
-    if len != text.len() || len > 1024 {
-        return false;
-    }
-    for at in 0..len {
-        if out[at] != text[at] {
-            return false;
-        }
-    }
-    len == 1024 || out[len] == 46
+    let len = answer(input, &mut out[..most]);
+    len == text.len()
+        && out.starts_with(text)
+        && out
+            .get(len..)
+            .is_some_and(|rest| rest.iter().all(|&byte| byte == 46))
 }
 
 #[test]

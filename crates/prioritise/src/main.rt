@@ -18,19 +18,14 @@ fn print_task(rt: &HostRuntime, number: usize, task: &Task, row: &Row) -> io::Re
     println!(rt; " {response} {deadline}")
 }
 
-// Prints the task of this rank.
-fn print_rank(rt: &HostRuntime, table: &Table, rows: &[Row], rank: usize) -> io::Result<()> {
-    for (number, task) in table.tasks().iter().enumerate() {
-        if usize::from(task.rank) == rank && number < rows.len() {
-            print_task(rt, number, task, &rows[number])?;
-        }
-    }
-    Ok(())
-}
-
 fn print_order(rt: &HostRuntime, table: &Table, rows: &[Row]) -> io::Result<()> {
     for rank in 1..=MOST_TASKS {
-        print_rank(rt, table, rows, rank)?;
+        let mut lines = table.tasks().iter().zip(rows).enumerate();
+        if let Some((number, (task, row))) = lines.find(|(_, (task, _))| usize::from(task.rank)
+            == rank)
+        {
+            print_task(rt, number, task, row)?;
+        }
     }
     Ok(())
 }

@@ -3,15 +3,16 @@
 
 use analysis::{Judgement, Row, Verdict, judge};
 use cases::{CASES, Case, Plain};
-use policy::{Arrival, Bands, Deadline, Fixed};
+use policy::ByCode;
 use std::io;
-use table::{Name, PolicyCode, Refusal, Table, Task};
+use table::{MOST_TASKS, Name, Table, Task};
 
 mod cases;
 
 // The most tasks that a reference table has.
 const MOST: usize = 15;
 
+// Not `From`: the tuple and Task are both of other crates.
 fn task_of(plain: Plain) -> Task {
     let (cost, period, deadline, rank) = plain;
     Task {
@@ -29,16 +30,7 @@ fn table_of(case: Case) -> Option<Table> {
         *place = task_of(*plain);
     }
     let count = case.tasks.len().min(tasks.len());
-    Table::new(case.policy, case.mode, case.band, &tasks[0..count])
-}
-
-fn judged(table: &Table, rows: &mut [Row]) -> Result<Judgement, Refusal> {
-    match table.policy() {
-        PolicyCode::Fixed => judge(&Fixed, table, rows),
-        PolicyCode::Deadline => judge(&Deadline, table, rows),
-        PolicyCode::Arrival => judge(&Arrival, table, rows),
-        PolicyCode::Bands => judge(&Bands::new(table.band(), Fixed, Deadline), table, rows),
-    }
+    Table::new(case.policy, case.mode, case.band, &tasks[..count])
 }
 
 fn print_rows(rt: &HostRuntime, rows: &[Row]) -> io::Result<()> {
@@ -65,11 +57,11 @@ fn print_table(rt: &HostRuntime, table: &Table) -> io::Result<()> {
         response: 0,
         offset: 0,
         deadline: 0,
-    }; 24];
-    match judged(table, &mut rows) {
+    }; MOST_TASKS];
+    match judge(&ByCode, table, &mut rows) {
         Ok(judgement) => {
             let count = table.count().min(rows.len());
-            print_judgement(rt, judgement, &rows[0..count])
+            print_judgement(rt, judgement, &rows[..count])
         }
         Err(refusal) => {
             let number = refusal.number();
