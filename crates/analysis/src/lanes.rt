@@ -30,19 +30,20 @@ impl Lane {
     ghost use Rattle.std.specs.Prelude.{◌≡◌, ◌+◌, ◌-◌, ◌*◌, ◌^◌, if◌then◌else◌, nat_lt};
     ghost use Rattle.analysis.specs.Lanes.{lane_jobs, lane_limit};
 
-    // Jobs released before t that come ahead.
-    fn jobs(self, t: u32) -> u32
-        ensures { result ≡ lane_jobs self t }
+    // Jobs released up to the tick `last` that come ahead.
+    fn jobs(self, last: u32) -> u64
+        ensures value { result ≡ lane_jobs self (last + 1) }
+        ensures bound { result ≤ 2 ^ 32 }
     {
-        t.div_ceil(self.period).min(self.limit)
+        (u64::from(last / self.period) + 1).min(u64::from(self.limit))
     }
 
-    // The work within t ticks.
-    pub(crate) fn share(self, t: u32) -> u64
-        ensures value { result ≡ lane_jobs self t * self.cost }
+    // The work released up to the tick `last`.
+    pub(crate) fn share(self, last: u32) -> u64
+        ensures value { result ≡ lane_jobs self (last + 1) * self.cost }
         ensures bound { result ≤ 2 ^ 44 }
     {
-        u64::from(self.jobs(t)) * u64::from(self.cost)
+        self.jobs(last) * u64::from(self.cost)
     }
 
     // How many releases come ahead of the offset a.
@@ -57,8 +58,7 @@ impl Lane {
 
     // What the lane blocks: C - 1 where its release at -1 is behind the offset a.
     pub(crate) fn block_at(self, a: u32) -> u32
-        ensures value { result ≡ (if nat_lt (a + self.lead + 1) 100000 then self.cost - 1 else 0) }
-        ensures bound { result ≤ 4096 }
+        ensures { result ≡ (if nat_lt (a + self.lead + 1) 100000 then self.cost - 1 else 0) }
     {
         // The sum of the offset and the lead could overflow.
         if a < 99_999u32.saturating_sub(self.lead) {

@@ -1,9 +1,9 @@
 -- What the calls about worst courses answer. From an offset of 60,000 on no course is told.
-use Rattle.std.specs.Prelude.{◌≡◌, ℕ, ◌+◌, ◌-◌, ◌%◌, ◌<◌, ◌≤◌, Bool, false, cond, ◌&&◌, ◌⊎◌, Some, None, Ok, Err, Option, Result, ◌==◌, nat_le}
-use Rattle.table.specs.Rules.{TaskSet, task_count}
+use Rattle.std.specs.Prelude.{◌≡◌, ℕ, ◌+◌, ◌-◌, ◌%◌, ◌<◌, ◌≤◌, Bool, false, cond, ◌&&◌, ◌⊎◌, Some, None, Ok, Err, Option, Result, ◌==◌, nat_le, nat_lt, not, pos, negsuc}
+use Rattle.table.specs.Rules.{TaskSet, task_at, task_count}
 use Rattle.table.specs.declared.refusal.Refusal.{Refusal}
 use Rattle.table.specs.declared.refusal.Refusal.TheVariants.{NoTaskToJudge}
-use Rattle.policy.specs.Order.{Order}
+use Rattle.policy.specs.Order.{Order, job}
 use Rattle.theory.specs.Course.{releases_at, lead, blocker}
 use Rattle.courses.specs.declared.lead.Lead.{Lead}
 
@@ -14,6 +14,10 @@ offset_limit = 60000
 abbrev pub Told : TaskSet → Order → ℕ → ℕ → ℕ → ℕ → Result Bool Refusal → Type 0
 Told s o i a j t (Ok yes-told) = (i < task_count s) × (j < task_count s) × (yes-told ≡ cond (nat_le offset_limit a) false (releases_at s o i a j t))
 Told s o i a j t (Err e) = ((e ≡ NoTaskToJudge i) × (task_count s ≤ i)) ⊎ ((e ≡ NoTaskToJudge j) × (i < task_count s) × (task_count s ≤ j))
+
+-- what task j blocks: C - 1 where it is another task whose job at -1 is behind
+abbrev pub block_at : TaskSet → Order → ℕ → ℕ → ℕ → Option ℕ
+block_at s o i a j = cond (nat_lt j (task_count s) && (not (j == i) && o.ahead (job i (pos a)) (job j (negsuc 0)))) (Some ((task_at s j).cost - 1)) None
 
 -- the blocker, where the course has a lead
 abbrev pub blocker_of : TaskSet → Order → ℕ → ℕ → Option ℕ

@@ -1,7 +1,7 @@
 //! The lead of a worst course, and the task that blocks it.
 
 /// How many ticks a worst course begins early (0 or 1), and which task then releases alone at 0.
-#[derive(Clone, Copy)]
+#[derive(Clone, Copy, Debug, Default, PartialEq, Eq)]
 pub struct Lead {
     /// 1 where a task blocks, else 0.
     pub ticks: u32,

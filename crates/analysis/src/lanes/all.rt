@@ -9,15 +9,18 @@ use super::Lane;
 fn work(lanes: &[Lane], own: u64, t: u32) -> u64
     requires few { length lanes.now ≤ 24 }
     requires light { own ≤ 2 ^ 45 }
+    requires some { 1 ≤ t }
     ensures { result ≡ own + lanes_work lanes.now t }
 {
-    own + lanes.iter().map(|lane| lane.share(t)).sum::<u64>()
+    let last = t - 1;
+    own + lanes.iter().map(|lane| lane.share(last)).sum::<u64>()
 }
 
 // The least t from `start` to `cap` that covers its own work; none where there is none.
 pub(crate) fn climb(lanes: &[Lane], own: u64, start: u32, cap: u32) -> Option<u32>
     requires few { length lanes.now ≤ 24 }
     requires light { own ≤ 2 ^ 45 }
+    requires some { 1 ≤ start }
     ensures { Climbed (λ t. own + lanes_work lanes.now t) start cap result }
 {
     // A loop: each turn jumps to the work of the last one, which no iterator over numbers does.
@@ -50,5 +53,7 @@ pub(crate) fn blocking(lanes: &[Lane], a: u32) -> u32
     ensures value { result ≡ lanes_block lanes.now a }
     ensures bound { result ≤ 4096 }
 {
-    lanes.iter().map(|lane| lane.block_at(a)).max().unwrap_or(0)
+    lanes
+        .iter()
+        .fold(0, |longest: u32, lane| longest.max(lane.block_at(a)))
 }

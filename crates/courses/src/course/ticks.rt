@@ -1,13 +1,12 @@
 //! The ticks of a worst course.
-ghost use Rattle.std.specs.Prelude.{◌≡◌, ◌+◌, ◌<◌, ◌&&◌, nat_lt};
+ghost use Rattle.std.specs.Prelude.{◌≡◌, ◌+◌, ◌<◌, ◌≤◌, ◌&&◌, nat_lt};
 ghost use Rattle.table.specs.Model.{content};
 ghost use Rattle.table.specs.Rules.{task_at, task_count};
-ghost use Rattle.courses.specs.Courses.{releases_by};
+ghost use Rattle.courses.specs.Courses.{own_releases, other_releases, releases_by};
 ghost use Rattle.courses.specs.OneCourse.{Coursed};
 
 use super::Course;
 use crate::lead::blocking::{OFFSET_LIMIT, worst_course_lead};
-use crate::told::releases;
 use policy::Policy;
 use table::{Refusal, Table};
 
@@ -42,13 +41,36 @@ impl Course {
         self.lead.ticks + self.offset
     }
 
+    // The task itself: at lead + (a mod T) and every T after it, up to lead + a.
+    fn own_releases(&self, period: u32, t: u32) -> bool
+        requires { 1 ≤ period }
+        ensures { result ≡ own_releases self.now.lead.ticks self.now.offset period t }
+    {
+        let first = self.lead.ticks + self.offset % period;
+        first <= t && t <= self.arrival() && (t - first) % period == 0
+    }
+
+    // Another task: at the lead and every T after it.
+    fn other_releases(&self, period: u32, t: u32) -> bool
+        requires { 1 ≤ period }
+        ensures { result ≡ other_releases self.now.lead.ticks period t }
+    {
+        self.lead.ticks <= t && (t - self.lead.ticks) % period == 0
+    }
+
     /// Whether task j releases at tick t; no where the table has no such task.
     pub fn releases(&self, table: &Table, j: usize, t: u32) -> bool
         ensures { result ≡ (nat_lt j (task_count (content table.now)) && releases_by self.now.lead self.now.task self.now.offset j (task_at (content table.now) j).period t) }
     {
-        match table.task(j) {
-            None => false,
-            Some(task) => releases(self.lead, self.task, self.offset, j, task.period, t),
+        let Some(task) = table.task(j) else {
+            return false;
+        };
+        if j == self.task {
+            self.own_releases(task.period, t)
+        } else if self.lead.blocker == Some(j) {
+            t == 0
+        } else {
+            self.other_releases(task.period, t)
         }
     }
 }
