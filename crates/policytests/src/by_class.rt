@@ -1,10 +1,10 @@
 //! The policy of `classes` in both modes.
-use crate::playing::{BLANK, attains, first_difference, judged, looked, other_row, task};
-use analysis::Row;
+use crate::playing::{BLANK, counts, first_difference, response_at, task, unattained};
+use analysis::{Judgement, Verdict, judge};
 use classes::{Classes, Member};
 use dispatch::Run;
 use std::test::Fail;
-use table::{MOST_TASKS, Mode, PolicyCode, Table};
+use table::{MOST_TASKS, Mode, PolicyCode, Refusal, Table};
 
 // Task 0 has the given deadline.
 fn four(mode: Mode, deadline: u32) -> Option<Table> {
@@ -56,12 +56,12 @@ fn displacing(rt: HostRuntime) -> Result<(), Fail> {
         b"...1........1................1..",
         b"^.....###A..............*......#",
     ];
-    assert_eq!(rt; first_difference(&mut run, &lines, 32), 32);
-    assert_eq!(rt; looked(&run, 0), [3, 3, 0, 0, 6]);
-    assert_eq!(rt; looked(&run, 1), [3, 3, 0, 0, 3]);
-    assert_eq!(rt; looked(&run, 2), [3, 3, 0, 0, 1]);
-    assert_eq!(rt; looked(&run, 3), [2, 1, 1, 0, 10]);
-    assert_eq!(rt; looked(&run, 4), [0; 5]);
+    assert_eq!(rt; first_difference(&mut run, &lines, 32), None);
+    assert_eq!(rt; run.look(0), Ok(counts(3, 3, 0, 0, 6)));
+    assert_eq!(rt; run.look(1), Ok(counts(3, 3, 0, 0, 3)));
+    assert_eq!(rt; run.look(2), Ok(counts(3, 3, 0, 0, 1)));
+    assert_eq!(rt; run.look(3), Ok(counts(2, 1, 1, 0, 10)));
+    assert_eq!(rt; run.look(4), Err(Refusal::NoTaskToRun { task: 4 }));
     Ok(())
 }
 
@@ -80,11 +80,11 @@ fn holding(rt: HostRuntime) -> Result<(), Fail> {
         b"...1........1................^.3",
         b"^.....###A..............*##4....",
     ];
-    assert_eq!(rt; first_difference(&mut run, &lines, 32), 32);
-    assert_eq!(rt; looked(&run, 0), [3, 3, 0, 0, 6]);
-    assert_eq!(rt; looked(&run, 1), [3, 2, 1, 0, 4]);
-    assert_eq!(rt; looked(&run, 2), [3, 3, 0, 0, 3]);
-    assert_eq!(rt; looked(&run, 3), [2, 2, 0, 0, 10]);
+    assert_eq!(rt; first_difference(&mut run, &lines, 32), None);
+    assert_eq!(rt; run.look(0), Ok(counts(3, 3, 0, 0, 6)));
+    assert_eq!(rt; run.look(1), Ok(counts(3, 2, 1, 0, 4)));
+    assert_eq!(rt; run.look(2), Ok(counts(3, 3, 0, 0, 3)));
+    assert_eq!(rt; run.look(3), Ok(counts(2, 2, 0, 0, 10)));
     Ok(())
 }
 
@@ -95,22 +95,18 @@ fn late(rt: HostRuntime) -> Result<(), Fail> {
         return Err(Fail::new("no table"));
     };
     let mut rows = [BLANK; 4];
-    assert_eq!(rt; judged(&policy(), &table, &mut rows), (20, 0));
+    assert_eq!(rt;
+        judge(&policy(), &table, &mut rows),
+        Ok(Judgement {
+            busy_period: 20,
+            verdict: Verdict::Late { task: 0 }
+        })
+    );
     let mut run = Run::new(policy(), &table);
     let lines: [&[u8]; 4] = [b"*#...6", b"..*.3.", b"...1..", b"^....."];
-    assert_eq!(rt; first_difference(&mut run, &lines, 6), 6);
-    assert_eq!(rt; looked(&run, 0), [1, 1, 0, 1, 6]);
+    assert_eq!(rt; first_difference(&mut run, &lines, 6), None);
+    assert_eq!(rt; run.look(0), Ok(counts(1, 1, 0, 1, 6)));
     Ok(())
-}
-
-// The first task whose worst course does not show its response, or the number of rows.
-fn unattained(table: &Table, rows: &[Row]) -> usize {
-    for (task, row) in rows.iter().enumerate() {
-        if !attains(policy(), table, task, *row) {
-            return task;
-        }
-    }
-    rows.len()
 }
 
 // All release at 0. Task 2 is first; task 1 with 0 + 2 is before task 0 with 0 + 5; so these end at 1, 3 and 6.
@@ -121,9 +117,15 @@ fn rows_displacing(rt: HostRuntime) -> Result<(), Fail> {
         return Err(Fail::new("no table"));
     };
     let mut rows = [BLANK; 4];
-    assert_eq!(rt; judged(&policy(), &table, &mut rows), (20, 99));
-    assert_eq!(rt; other_row(&rows, &[(6, 0), (3, 0), (1, 0), (20, 0)]), 4);
-    assert_eq!(rt; unattained(&table, &rows), 4);
+    assert_eq!(rt;
+        judge(&policy(), &table, &mut rows),
+        Ok(Judgement {
+            busy_period: 20,
+            verdict: Verdict::Admitted
+        })
+    );
+    assert_eq!(rt; rows.map(response_at), [(6, 0), (3, 0), (1, 0), (20, 0)]);
+    assert_eq!(rt; unattained(policy, &table, &rows), None);
     Ok(())
 }
 
@@ -137,8 +139,14 @@ fn rows_holding(rt: HostRuntime) -> Result<(), Fail> {
         return Err(Fail::new("no table"));
     };
     let mut rows = [BLANK; 4];
-    assert_eq!(rt; judged(&policy(), &table, &mut rows), (20, 99));
-    assert_eq!(rt; other_row(&rows, &[(10, 0), (7, 3), (4, 0), (11, 0)]), 4);
-    assert_eq!(rt; unattained(&table, &rows), 4);
+    assert_eq!(rt;
+        judge(&policy(), &table, &mut rows),
+        Ok(Judgement {
+            busy_period: 20,
+            verdict: Verdict::Admitted
+        })
+    );
+    assert_eq!(rt; rows.map(response_at), [(10, 0), (7, 3), (4, 0), (11, 0)]);
+    assert_eq!(rt; unattained(policy, &table, &rows), None);
     Ok(())
 }

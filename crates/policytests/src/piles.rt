@@ -1,6 +1,6 @@
 //! Piles of three bands in both modes: tasks 0 and 1, tasks 2 and 3, and the rest.
-use crate::playing::{BLANK, attains, first_difference, judged, looked, other_row, task};
-use analysis::Row;
+use crate::playing::{BLANK, counts, first_difference, response_at, task, unattained};
+use analysis::{Judgement, Verdict, judge};
 use classes::{Classes, Member};
 use dispatch::Run;
 use policy::{Arrival, Bands, Deadline, Fixed};
@@ -51,10 +51,10 @@ fn shipped_displacing(rt: HostRuntime) -> Result<(), Fail> {
         b"*......8................*.3.",
         b".^......8...............^..4",
     ];
-    assert_eq!(rt; first_difference(&mut run, &lines, 28), 28);
-    assert_eq!(rt; looked(&run, 0), [3, 3, 0, 0, 3]);
-    assert_eq!(rt; looked(&run, 2), [2, 2, 0, 0, 6]);
-    assert_eq!(rt; looked(&run, 5), [2, 2, 0, 0, 8]);
+    assert_eq!(rt; first_difference(&mut run, &lines, 28), None);
+    assert_eq!(rt; run.look(0), Ok(counts(3, 3, 0, 0, 3)));
+    assert_eq!(rt; run.look(2), Ok(counts(2, 2, 0, 0, 6)));
+    assert_eq!(rt; run.look(5), Ok(counts(2, 2, 0, 0, 8)));
     Ok(())
 }
 
@@ -73,9 +73,9 @@ fn shipped_holding(rt: HostRuntime) -> Result<(), Fail> {
         b"*2......................*2..",
         b".^......8...............^..4",
     ];
-    assert_eq!(rt; first_difference(&mut run, &lines, 28), 28);
-    assert_eq!(rt; looked(&run, 2), [2, 2, 0, 0, 7]);
-    assert_eq!(rt; looked(&run, 4), [2, 2, 0, 0, 2]);
+    assert_eq!(rt; first_difference(&mut run, &lines, 28), None);
+    assert_eq!(rt; run.look(2), Ok(counts(2, 2, 0, 0, 7)));
+    assert_eq!(rt; run.look(4), Ok(counts(2, 2, 0, 0, 2)));
     Ok(())
 }
 
@@ -94,8 +94,8 @@ fn mixed_displacing(rt: HostRuntime) -> Result<(), Fail> {
         b"*......8................*.3.",
         b".^......8...............^..4",
     ];
-    assert_eq!(rt; first_difference(&mut run, &lines, 28), 28);
-    assert_eq!(rt; looked(&run, 3), [2, 2, 0, 0, 5]);
+    assert_eq!(rt; first_difference(&mut run, &lines, 28), None);
+    assert_eq!(rt; run.look(3), Ok(counts(2, 2, 0, 0, 5)));
     Ok(())
 }
 
@@ -114,30 +114,10 @@ fn mixed_holding(rt: HostRuntime) -> Result<(), Fail> {
         b"*2......................*2..",
         b".^......8...............^..4",
     ];
-    assert_eq!(rt; first_difference(&mut run, &lines, 28), 28);
-    assert_eq!(rt; looked(&run, 0), [3, 3, 0, 0, 4]);
-    assert_eq!(rt; looked(&run, 3), [2, 2, 0, 0, 6]);
+    assert_eq!(rt; first_difference(&mut run, &lines, 28), None);
+    assert_eq!(rt; run.look(0), Ok(counts(3, 3, 0, 0, 4)));
+    assert_eq!(rt; run.look(3), Ok(counts(2, 2, 0, 0, 6)));
     Ok(())
-}
-
-// The first task whose worst course does not show its response under the first pile, or the number of rows.
-fn unattained_shipped(table: &Table, rows: &[Row]) -> usize {
-    for (task, row) in rows.iter().enumerate() {
-        if !attains(shipped(), table, task, *row) {
-            return task;
-        }
-    }
-    rows.len()
-}
-
-// The same under the second.
-fn unattained_mixed(table: &Table, rows: &[Row]) -> usize {
-    for (task, row) in rows.iter().enumerate() {
-        if !attains(mixed(), table, task, *row) {
-            return task;
-        }
-    }
-    rows.len()
 }
 
 // All release at 0: task 1 ends at 2, task 0 at 3, task 3 at 4, task 2 at 6. Task 4 would end at 8; released at 1, it has task 5 from 0 before it and
@@ -149,18 +129,30 @@ fn rows_displacing(rt: HostRuntime) -> Result<(), Fail> {
         return Err(Fail::new("no table"));
     };
     let mut rows = [BLANK; 6];
-    assert_eq!(rt; judged(&shipped(), &table, &mut rows), (10, 99));
     assert_eq!(rt;
-        other_row(&rows, &[(3, 0), (2, 0), (6, 0), (4, 0), (9, 1), (10, 0)]),
-        6
+        judge(&shipped(), &table, &mut rows),
+        Ok(Judgement {
+            busy_period: 10,
+            verdict: Verdict::Admitted
+        })
     );
-    assert_eq!(rt; unattained_shipped(&table, &rows), 6);
-    assert_eq!(rt; judged(&mixed(), &table, &mut rows), (10, 99));
     assert_eq!(rt;
-        other_row(&rows, &[(3, 0), (2, 0), (5, 0), (6, 0), (9, 1), (10, 0)]),
-        6
+        rows.map(response_at),
+        [(3, 0), (2, 0), (6, 0), (4, 0), (9, 1), (10, 0)]
     );
-    assert_eq!(rt; unattained_mixed(&table, &rows), 6);
+    assert_eq!(rt; unattained(shipped, &table, &rows), None);
+    assert_eq!(rt;
+        judge(&mixed(), &table, &mut rows),
+        Ok(Judgement {
+            busy_period: 10,
+            verdict: Verdict::Admitted
+        })
+    );
+    assert_eq!(rt;
+        rows.map(response_at),
+        [(3, 0), (2, 0), (5, 0), (6, 0), (9, 1), (10, 0)]
+    );
+    assert_eq!(rt; unattained(mixed, &table, &rows), None);
     Ok(())
 }
 
@@ -173,17 +165,29 @@ fn rows_holding(rt: HostRuntime) -> Result<(), Fail> {
         return Err(Fail::new("no table"));
     };
     let mut rows = [BLANK; 6];
-    assert_eq!(rt; judged(&shipped(), &table, &mut rows), (10, 99));
     assert_eq!(rt;
-        other_row(&rows, &[(4, 0), (3, 0), (7, 0), (5, 0), (8, 0), (10, 0)]),
-        6
+        judge(&shipped(), &table, &mut rows),
+        Ok(Judgement {
+            busy_period: 10,
+            verdict: Verdict::Admitted
+        })
     );
-    assert_eq!(rt; unattained_shipped(&table, &rows), 6);
-    assert_eq!(rt; judged(&mixed(), &table, &mut rows), (10, 99));
     assert_eq!(rt;
-        other_row(&rows, &[(4, 0), (3, 0), (6, 0), (7, 0), (8, 0), (10, 0)]),
-        6
+        rows.map(response_at),
+        [(4, 0), (3, 0), (7, 0), (5, 0), (8, 0), (10, 0)]
     );
-    assert_eq!(rt; unattained_mixed(&table, &rows), 6);
+    assert_eq!(rt; unattained(shipped, &table, &rows), None);
+    assert_eq!(rt;
+        judge(&mixed(), &table, &mut rows),
+        Ok(Judgement {
+            busy_period: 10,
+            verdict: Verdict::Admitted
+        })
+    );
+    assert_eq!(rt;
+        rows.map(response_at),
+        [(4, 0), (3, 0), (6, 0), (7, 0), (8, 0), (10, 0)]
+    );
+    assert_eq!(rt; unattained(mixed, &table, &rows), None);
     Ok(())
 }
