@@ -6,16 +6,14 @@ use console::{INPUT_BYTES, front, print_refusal, read_input};
 use planning::judge_table;
 use priority::assign_priorities;
 use std::io;
-use std::io::Write;
 use table::{MOST_TASKS, Refusal, Table, Task};
 use tablefile::read_table;
 
 fn print_task(rt: &HostRuntime, number: usize, task: &Task, row: &Row) -> io::Result<()> {
-    print!(rt; "{number} ")?;
-    rt.stdout().write_all(task.name.as_bytes())?;
+    let name = task.name;
     let response = row.response;
     let deadline = row.deadline;
-    println!(rt; " {response} {deadline}")
+    println!(rt; "{number} {name} {response} {deadline}")
 }
 
 fn print_order(rt: &HostRuntime, table: &Table, rows: &[Row]) -> io::Result<()> {
@@ -42,11 +40,7 @@ fn main(rt: HostRuntime) -> io::Result<()> {
     let mut buffer = [0u8; INPUT_BYTES];
     let len = read_input(&rt, &mut buffer)?;
     let mut table = Table::fresh();
-    let mut rows = [Row {
-        response: 0,
-        offset: 0,
-        deadline: 0,
-    }; MOST_TASKS];
+    let mut rows = [Row::default(); MOST_TASKS];
     match ordered(front(&buffer, len), &mut table, &mut rows) {
         Ok(_) => print_order(&rt, &table, &rows),
         Err(refusal) => print_refusal(&rt, refusal),

@@ -1,7 +1,7 @@
 //! Judges the reference tables and prints for each its stretch, responses, offsets and verdict, or the number of its refusal.
 #![tactic(auto)]
 
-use analysis::{Judgement, Row, Verdict, judge};
+use analysis::{Judgement, Row, judge};
 use cases::{CASES, Case, Plain};
 use policy::ByCode;
 use std::io;
@@ -46,18 +46,12 @@ fn print_judgement(rt: &HostRuntime, judgement: Judgement, rows: &[Row]) -> io::
     let stretch = judgement.busy_period;
     print!(rt; " stretch {stretch}")?;
     print_rows(rt, rows)?;
-    match judgement.verdict {
-        Verdict::Admitted => println!(rt; " admitted"),
-        Verdict::Late { task: _ } => println!(rt; " late"),
-    }
+    let verdict = judgement.verdict;
+    println!(rt; " {verdict}")
 }
 
 fn print_table(rt: &HostRuntime, table: &Table) -> io::Result<()> {
-    let mut rows = [Row {
-        response: 0,
-        offset: 0,
-        deadline: 0,
-    }; MOST_TASKS];
+    let mut rows = [Row::default(); MOST_TASKS];
     match judge(&ByCode, table, &mut rows) {
         Ok(judgement) => {
             let count = table.count().min(rows.len());
