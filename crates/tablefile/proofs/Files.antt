@@ -1,5 +1,5 @@
 -- The bytes determine the table, and the table the bytes.
-use Rattle.std.proofs.Common.{◌≡◌, ℕ, ◌<◌, ◌≤◌, true, leb, List, [], ◌∷◌, ◌++◌, map, length, get_or, take, Ok, Err, sym, refl, ap, ◌∙◌, subst, Some, None, Option, rules}
+use Rattle.std.proofs.Common.{◌≡◌, ℕ, ◌<◌, ◌≤◌, true, leb, List, [], ◌∷◌, ◌++◌, map, length, get_or, Ok, Err, sym, refl, ap, ◌∙◌, subst, Some, None, Option, rules}
 use Rattle.std.proofs.lemmas.Bool.{leb-true, both_ways}
 use Rattle.std.specs.List.{flat_map}
 use Rattle.table.proofs.Every.{and_true, and_left, and_right}
@@ -95,14 +95,14 @@ module _ (s : List ℕ) (h : HeaderFields) (head : Ok h ≡ header_at s 0) where
   unfolding file
   tasks_refused why bad = then_go (header_at s 0) _ (sym head) (ap (λ r. r then λ ts. Ok (of_header h ts)) bad)
 
-  module _ (room : List Task) (good : tasks_at s h.count h.count [] 6 ≡ Ok (map sporadic (take h.count room))) where
-    stored : file s ≡ Ok (of_header h (map sporadic (take h.count room)))
+  module _ (ts : List Task) (good : tasks_at s h.count h.count [] 6 ≡ Ok (map sporadic ts)) where
+    stored : file s ≡ Ok (of_header h (map sporadic ts))
     unfolding file
     stored = then_go (header_at s 0) _ (sym head) (ap (λ r. r then λ ts. Ok (of_header h ts)) good)
 
-    pub file_built : (w : TaskSet) → w ≡ of_header h (map sporadic (take h.count room)) → file s ≡ Ok w
+    pub file_built : (w : TaskSet) → w ≡ of_header h (map sporadic ts) → file s ≡ Ok w
     file_built w same = stored ∙ ap Ok (sym same)
 
-    pub is_built : (fit : (i : ℕ) → get_or s i 0 < 256) (o : Option Table) → Built (of_header h (map sporadic (take h.count room))) o → IsSome o
+    pub is_built : (fit : (i : ℕ) → get_or s i 0 < 256) (o : Option Table) → Built (of_header h (map sporadic ts)) o → IsSome o
     is_built fit (Some t) built = search rules
-    is_built fit None broken = absurd (both_ways (follows_rules h.policy h.band (map sporadic (take h.count room))) broken (file_read s fit (of_header h (map sporadic (take h.count room))) stored).0)
+    is_built fit None broken = absurd (both_ways (follows_rules h.policy h.band (map sporadic ts)) broken (file_read s fit (of_header h (map sporadic ts)) stored).0)

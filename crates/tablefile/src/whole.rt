@@ -1,5 +1,5 @@
 //! Reading a whole file into a table.
-ghost use Rattle.std.specs.Prelude.{◌≡◌, ◌≤◌, true, [], map, length, take, Ok, Err, MatchResult};
+ghost use Rattle.std.specs.Prelude.{◌≡◌, true, [], map, length, Ok, Err, MatchResult};
 ghost use Rattle.table.specs.Content.{sporadic};
 ghost use Rattle.table.specs.Model.{content};
 ghost use Rattle.table.specs.Sporadic.{name_in_range};
@@ -26,11 +26,12 @@ fn stored(fields: TaskFields) -> Task
     }
 }
 
-// The tasks behind the header, and the end. By index, as each task is read against those stored before it.
-fn read_tasks(reader: &mut Reader, count: usize, room: &mut [Task]) -> Result<(), Refusal>
-    requires { count ≤ length room.old }
-    ensures { MatchResult result (λ _. tasks_at reader.old.src.now count count [] reader.old.pos ≡ Ok (map sporadic (take count room.new))) (λ why. tasks_at reader.old.src.now count count [] reader.old.pos ≡ Err why) }
+// Fills the room with the tasks behind the header, and reads the end. By index, as each task is read against those
+// stored before it.
+fn read_tasks(reader: &mut Reader, room: &mut [Task]) -> Result<(), Refusal>
+    ensures { MatchResult result (λ _. tasks_at reader.old.src.now (length room.old) (length room.old) [] reader.old.pos ≡ Ok (map sporadic room.new)) (λ why. tasks_at reader.old.src.now (length room.old) (length room.old) [] reader.old.pos ≡ Err why) }
 {
+    let count = room.len();
     for at in 0..count {
         let fields = reader.read_task(count, &room[..at])?;
         room[at] = stored(fields);
@@ -45,8 +46,8 @@ fn table_of(bytes: &[u8]) -> Result<Table, Refusal>
     let mut reader = Reader::new(bytes);
     let header = reader.read_header()?;
     let mut room = [Task::fresh(); MOST_TASKS];
-    read_tasks(&mut reader, header.count, &mut room)?;
-    let tasks = &room[..header.count];
+    let tasks = &mut room[..header.count];
+    read_tasks(&mut reader, tasks)?;
     Ok(Table::new(header.policy, header.mode, header.band, tasks).unwrap())
 }
 

@@ -12,12 +12,12 @@ returns-in_err-fields c =
     let p = err_from_is_err_and c.from_residual.result c.from_residual.ensures.1 in
     let l = c.loop-at in
     let same = l.invariant.input in
-    rw (p.1, p.2) (refused_here c.args.reader.now.src.now c.args.count l.at l.reader.pos l.room c.loop-at-test.true l.invariant.read c.in_err-fields.field-0.0 ((λ j. task_at (sym same j).now l.reader.pos c.args.count (map sporadic (take l.at l.room))) ∙ c.in_err-fields.ensures.value))
+    rw (p.1, p.2) (refused_here c.args.reader.now.src.now (length c.args.room.now) l.at l.reader.pos l.room c.loop-at-test.true l.invariant.read c.in_err-fields.field-0.0 ((λ j. task_at (sym same j).now l.reader.pos (length c.args.room.now) (map sporadic (take l.at l.room))) ∙ c.in_err-fields.ensures.value))
 
 pub stored-requires : goal.stored-requires
 stored-requires c =
     let l = c.loop-at in
-    name_good l.reader.src.now l.reader.pos c.args.count (map sporadic (take l.at l.room)) (task_said c.in_ok-fields.fields) c.in_ok-fields.ensures.value
+    name_good l.reader.src.now l.reader.pos (length c.args.room.now) (map sporadic (take l.at l.room)) (task_said c.in_ok-fields.fields) c.in_ok-fields.ensures.value
 
 pub loop-at-preserved : goal.loop-at-preserved
 loop-at-preserved c =
@@ -25,10 +25,9 @@ loop-at-preserved c =
     let same = l.invariant.input in
     let read = c.in_ok-fields.ensures in
     let long = length-set l.room l.at c.stored.result in
-    let inside : l.at < length l.room = omega (arith, l.invariant.enough, c.loop-at-test.true) in
+    let inside : l.at < length l.room = omega (arith, l.invariant.long, c.loop-at-test.true) in
     record {
-      enough = omega (arith, long, l.invariant.enough);
       long = long ∙ l.invariant.long;
       input = read.input ∙ same;
-      read = stored_more c.args.reader.now.src.now c.args.count l.at l.reader.pos l.room c.loop-at-test.true l.invariant.read c.stored.result (task_said c.in_ok-fields.fields) c.read_task.new.self.pos inside ((λ j. task_at (sym same j).now l.reader.pos c.args.count (map sporadic (take l.at l.room))) ∙ read.value) c.stored.ensures read.place;
+      read = stored_more c.args.reader.now.src.now (length c.args.room.now) l.at l.reader.pos l.room c.loop-at-test.true l.invariant.read c.stored.result (task_said c.in_ok-fields.fields) c.read_task.new.self.pos inside ((λ j. task_at (sym same j).now l.reader.pos (length c.args.room.now) (map sporadic (take l.at l.room))) ∙ read.value) c.stored.ensures read.place;
     }
