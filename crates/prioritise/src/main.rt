@@ -19,9 +19,8 @@ fn print_task(rt: &HostRuntime, number: usize, task: &Task, row: &Row) -> io::Re
 fn print_order(rt: &HostRuntime, table: &Table, rows: &[Row]) -> io::Result<()> {
     for rank in 1..=MOST_TASKS {
         let mut lines = table.tasks().iter().zip(rows).enumerate();
-        if let Some((number, (task, row))) = lines.find(|(_, (task, _))| usize::from(task.rank)
-            == rank)
-        {
+        let line = lines.find(|(_, (task, _))| usize::from(task.rank) == rank);
+        if let Some((number, (task, row))) = line {
             print_task(rt, number, task, row)?;
         }
     }
