@@ -27,23 +27,24 @@ pub(crate) const IDLE: Lane = Lane {
 };
 
 impl Lane {
-    ghost use Rattle.std.specs.Prelude.{◌≡◌, ◌+◌, ◌-◌, ◌*◌, ◌^◌, if◌then◌else◌, nat_lt};
+    ghost use Rattle.std.specs.Prelude.{◌≡◌, ◌<◌, ◌+◌, ◌-◌, ◌*◌, ◌^◌, if◌then◌else◌, nat_lt};
     ghost use Rattle.analysis.specs.Lanes.{lane_jobs, lane_limit};
 
     // Jobs released up to the tick `last` that come ahead.
-    fn jobs(self, last: u32) -> u64
-        ensures value { result ≡ lane_jobs self (last + 1) }
-        ensures bound { result ≤ 2 ^ 32 }
+    fn jobs(self, last: u32) -> u32
+        requires { last < 4294967295 }
+        ensures { result ≡ lane_jobs self (last + 1) }
     {
-        (u64::from(last / self.period) + 1).min(u64::from(self.limit))
+        (last / self.period + 1).min(self.limit)
     }
 
     // The work released up to the tick `last`.
     pub(crate) fn share(self, last: u32) -> u64
+        requires { last < 4294967295 }
         ensures value { result ≡ lane_jobs self (last + 1) * self.cost }
         ensures bound { result ≤ 2 ^ 44 }
     {
-        self.jobs(last) * u64::from(self.cost)
+        u64::from(self.jobs(last)) * u64::from(self.cost)
     }
 
     // How many releases come ahead of the offset a.
