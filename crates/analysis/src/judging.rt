@@ -32,41 +32,62 @@ fn lead_of(reach: Reach) -> u32
     }
 }
 
-// The lane of task j in the analysis of task i.
-fn lane_to<P: Policy>(policy: &P, table: &Table, i: usize, j: usize) -> Lane
-    ensures { j < task_count (content table.now) → LaneTo (content table.now) (P.meaning policy.now (content table.now)) i j result }
-{
-    let Some(task) = table.task(j) else {
-        return IDLE;
-    };
-    Lane {
-        cost: if j == i { 0 } else { task.cost },
-        period: task.period,
-        lead: lead_of(policy.reach(table, i, j)),
-        limit: 0,
-    }
+// A table with its busy period, under a policy.
+#[derive(Drop)]
+struct Analysis<'a, P> {
+    policy: &'a P,
+    table: &'a Table,
+    busy: u32,
+    ghost short: { busy ≤ 60000 },
 }
 
-// The row of task i.
-fn row_of<P: Policy>(policy: &P, table: &Table, busy: u32, i: usize) -> Row
-    requires busy { BusyPeriod (content table.now) busy }
-    requires short { busy ≤ 60000 }
-    ensures { i < task_count (content table.now) → RowOf (content table.now) (P.meaning policy.now (content table.now)) busy i result }
-{
-    let Some(task) = table.task(i) else {
-        return Row::default();
-    };
-    let mut lanes: [Lane; 24] = array::from_fn(|j| lane_to(policy, table, i, j));
-    let own = Own {
-        mode: table.mode(),
-        cost: task.cost,
-        period: task.period,
-    };
-    let (response, offset) = worst_response(own, &mut lanes[..table.count()], busy);
-    Row {
-        response,
-        offset,
-        deadline: task.deadline,
+impl<P: Policy> Analysis<'_, P> {
+    // The lane of task j in the analysis of task i.
+    fn lane_to(&self, i: usize, j: usize) -> Lane
+        ensures { j < task_count (content self.now.table.now) → LaneTo (content self.now.table.now) (P.meaning self.now.policy.now (content self.now.table.now)) i j result }
+    {
+        let Some(task) = self.table.task(j) else {
+            return IDLE;
+        };
+        Lane {
+            cost: if j == i { 0 } else { task.cost },
+            period: task.period,
+            lead: lead_of(self.policy.reach(self.table, i, j)),
+            limit: 0,
+        }
+    }
+
+    // The row of task i.
+    fn row_of(&self, i: usize) -> Row
+        requires { BusyPeriod (content self.now.table.now) self.now.busy }
+        ensures { i < task_count (content self.now.table.now) → RowOf (content self.now.table.now) (P.meaning self.now.policy.now (content self.now.table.now)) self.now.busy i result }
+    {
+        let Some(task) = self.table.task(i) else {
+            return Row::default();
+        };
+        let mut lanes: [Lane; 24] = array::from_fn(|j| self.lane_to(i, j));
+        let own = Own {
+            mode: self.table.mode(),
+            cost: task.cost,
+            period: task.period,
+        };
+        let (response, offset) = worst_response(own, &mut lanes[..self.table.count()], self.busy);
+        Row {
+            response,
+            offset,
+            deadline: task.deadline,
+        }
+    }
+
+    // Writes the row of every task.
+    fn fill(&self, rows: &mut [Row])
+        requires busy { BusyPeriod (content self.now.table.now) self.now.busy }
+        requires all { length rows.old ≡ task_count (content self.now.table.now) }
+        ensures { (i : ℕ) → i < task_count (content self.now.table.now) → RowOf (content self.now.table.now) (P.meaning self.now.policy.now (content self.now.table.now)) self.now.busy i (row_at rows.new i) }
+    {
+        for (i, row) in rows.iter_mut().enumerate() {
+            *row = self.row_of(i);
+        }
     }
 }
 
@@ -77,18 +98,6 @@ fn verdict(rows: &[Row]) -> Verdict
     match rows.iter().position(|row| row.response > row.deadline) {
         Some(task) => Verdict::Late { task },
         None => Verdict::Admitted,
-    }
-}
-
-// Writes the row of every task.
-fn fill_rows<P: Policy>(policy: &P, table: &Table, busy: u32, rows: &mut [Row])
-    requires busy { BusyPeriod (content table.now) busy }
-    requires short { busy ≤ 60000 }
-    requires all { length rows.old ≡ task_count (content table.now) }
-    ensures { (i : ℕ) → i < task_count (content table.now) → RowOf (content table.now) (P.meaning policy.now (content table.now)) busy i (row_at rows.new i) }
-{
-    for (i, row) in rows.iter_mut().enumerate() {
-        *row = row_of(policy, table, busy, i);
     }
 }
 
@@ -105,11 +114,16 @@ pub fn judge<P: Policy>(policy: &P, table: &Table, rows: &mut [Row]) -> Result<J
     if rows.len() < count {
         return Err(Refusal::FewRows);
     }
-    let busy_period = busy_period(table).ok_or(Refusal::NoBusyPeriod)?;
+    let busy = busy_period(table).ok_or(Refusal::NoBusyPeriod)?;
+    let analysis = Analysis {
+        policy,
+        table,
+        busy,
+    };
     let front = &mut rows[..count];
-    fill_rows(policy, table, busy_period, front);
+    analysis.fill(front);
     Ok(Judgement {
-        busy_period,
+        busy_period: busy,
         verdict: verdict(front),
     })
 }
@@ -122,6 +136,11 @@ pub fn analyse_task<P: Policy>(policy: &P, table: &Table, task: usize) -> Result
     if task >= table.count() {
         return Err(Refusal::NoTaskToJudge { task });
     }
-    let busy_period = busy_period(table).ok_or(Refusal::NoBusyPeriod)?;
-    Ok(row_of(policy, table, busy_period, task))
+    let busy = busy_period(table).ok_or(Refusal::NoBusyPeriod)?;
+    let analysis = Analysis {
+        policy,
+        table,
+        busy,
+    };
+    Ok(analysis.row_of(task))
 }

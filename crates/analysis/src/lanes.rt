@@ -27,23 +27,24 @@ pub(crate) const IDLE: Lane = Lane {
 };
 
 impl Lane {
-    ghost use Rattle.std.specs.Prelude.{◌≡◌, ◌+◌, ◌-◌, ◌*◌, ◌^◌, if◌then◌else◌, nat_lt};
+    ghost use Rattle.std.specs.Prelude.{◌≡◌, ◌<◌, ◌+◌, ◌-◌, ◌*◌, ◌^◌, if◌then◌else◌, nat_lt};
     ghost use Rattle.analysis.specs.Lanes.{lane_jobs, lane_limit};
 
     // Jobs released up to the tick `last` that come ahead.
-    fn jobs(self, last: u32) -> u64
-        ensures value { result ≡ lane_jobs self (last + 1) }
-        ensures bound { result ≤ 2 ^ 32 }
+    fn jobs(self, last: u32) -> u32
+        requires { last < 4294967295 }
+        ensures { result ≡ lane_jobs self (last + 1) }
     {
-        (u64::from(last / self.period) + 1).min(u64::from(self.limit))
+        (last / self.period + 1).min(self.limit)
     }
 
     // The work released up to the tick `last`.
     pub(crate) fn share(self, last: u32) -> u64
+        requires { last < 4294967295 }
         ensures value { result ≡ lane_jobs self (last + 1) * self.cost }
         ensures bound { result ≤ 2 ^ 44 }
     {
-        self.jobs(last) * u64::from(self.cost)
+        u64::from(self.jobs(last)) * u64::from(self.cost)
     }
 
     // How many releases come ahead of the offset a.
@@ -51,14 +52,18 @@ impl Lane {
         requires { a ≤ 60000 }
         ensures { result ≡ lane_limit self a }
     {
-        (a + self.lead)
-            .checked_sub(100_000)
-            .map_or(0, |past| past / self.period + 1)
+        // An `if` and no `checked_sub` with `map_or`, which takes three instructions more and misses the bar of speed.
+        if a + self.lead < 100_000 {
+            0
+        } else {
+            (a + self.lead - 100_000) / self.period + 1
+        }
     }
 
     // What the lane blocks: C - 1 where its release at -1 is behind the offset a.
     pub(crate) fn block_at(self, a: u32) -> u32
-        ensures { result ≡ (if nat_lt (a + self.lead + 1) 100000 then self.cost - 1 else 0) }
+        ensures value { result ≡ (if nat_lt (a + self.lead + 1) 100000 then self.cost - 1 else 0) }
+        ensures bound { result ≤ 4096 }
     {
         // The sum of the offset and the lead could overflow.
         if a < 99_999u32.saturating_sub(self.lead) {

@@ -13,6 +13,7 @@ pub struct Row {
 }
 
 /// Whether every response is within its deadline.
+// Two words and no Option: a `Some` that says late, and a `None` that says admitted, would read as the opposite.
 #[derive(Clone, Copy, Debug, PartialEq, Eq)]
 pub enum Verdict {
     /// Every task meets its deadline.

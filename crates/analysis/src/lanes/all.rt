@@ -1,4 +1,5 @@
 //! All lanes of an analysis together.
+// A slice with a clause `few`: a struct that carried the bound would be a buffer with a length beside it.
 ghost use Rattle.std.specs.Prelude.{◌≡◌, ℕ, ◌+◌, ◌*◌, ◌^◌, ◌≤◌, map, length};
 ghost use Rattle.analysis.specs.Climb.{Climbed};
 ghost use Rattle.analysis.specs.Lanes.{lanes_work, limited, lanes_block};
@@ -53,7 +54,5 @@ pub(crate) fn blocking(lanes: &[Lane], a: u32) -> u32
     ensures value { result ≡ lanes_block lanes.now a }
     ensures bound { result ≤ 4096 }
 {
-    lanes
-        .iter()
-        .fold(0, |longest: u32, lane| longest.max(lane.block_at(a)))
+    lanes.iter().map(|lane| lane.block_at(a)).max().unwrap_or(0)
 }

@@ -93,6 +93,7 @@ pub(crate) fn worst_response(own: Own, lanes: &mut [Lane], busy: u32) -> (u32, u
     requires fits { (a : ℕ) → a < busy → window_work own lanes.old a busy ≤ busy }
     ensures { Best (LaneResponse own lanes.old busy) busy result.0 result.1 }
 {
+    // A loop: each turn sets the lanes in place and climbs from the solution of the last one.
     let mut best = (0, 0);
     let mut last = Solved { work: 0, at: 1 };
     for a in 0..busy {

@@ -38,17 +38,17 @@ returns g c =
     let met = g.met.P.Policy in
     let checked = table_checked t in
     let laws = lawful s o (met.total p s checked) (met.transitive p s checked) (met.earlier p s checked) (met.range p s checked) (met.rule p s checked) in
-    let front = c.fill_rows.new.rows in
+    let front = c.fill.new.rows in
     let rest = drop n c.args.rows.now in
     let after = front ++ rest in
-    let found : Busy s (Some c.in_ok-busy_period.busy_period) = subst (Busy s) c.in_ok-busy_period.ensures.ok_part c.busy_period.ensures in
-    let j : Judgement = record { busy_period = c.in_ok-busy_period.busy_period; verdict = c.verdict.result } in
-    let long : length front ≡ task_count s = omega (arith, c.fill_rows.auto.rows, length-take-le n c.args.rows.now c.if-rows-count.false, c.count-count.ensures) in
+    let found : Busy s (Some c.in_ok-busy.busy) = subst (Busy s) c.in_ok-busy.ensures.ok_part c.busy_period.ensures in
+    let j : Judgement = record { busy_period = c.in_ok-busy.busy; verdict = c.verdict.result } in
+    let long : length front ≡ task_count s = omega (arith, c.fill.auto.rows, length-take-le n c.args.rows.now c.if-rows-count.false, c.count-count.ensures) in
     let given : Given s o c.args.rows.now after j = record {
       enough = omega (arith, c.if-rows-count.false, c.count-count.ensures);
       short = found.0;
       busy = found.1;
-      rows = λ i h. subst (λ row. RowOf s o j.busy_period i row) (sym (get_or-append front rest no_row i (omega (arith, long)))) (c.fill_rows.ensures i h);
+      rows = λ i h. subst (λ row. RowOf s o j.busy_period i row) (sym (get_or-append front rest no_row i (omega (arith, long)))) (c.fill.ensures i h);
       rest = drop-append-drop n c.args.rows.now front (task_count s) (omega (arith, c.count-count.ensures)) (omega (arith, long, c.count-count.ensures));
       verdict = subst (λ m. VerdictOf m after c.verdict.result) long (front_verdict front rest c.verdict.result c.verdict.ensures);
     } in
