@@ -2,14 +2,13 @@
 ghost use Rattle.std.specs.Prelude.{◌≡◌};
 ghost use Rattle.table.specs.Model.{content};
 ghost use Rattle.theory.specs.Machine.{answers, start};
-ghost use Rattle.policy.specs.Chosen.{chosen_order};
 ghost use Rattle.capi.specs.Played.{Played, PlayedFile, PlayedTold};
 
 use crate::outcome::Outcome;
 use crate::steps::{Reply, Step};
 use dispatch::{Event, Run};
-use policy::{Arrival, Bands, Deadline, Fixed, Policy};
-use table::{PolicyCode, Refusal, Table};
+use policy::{ByCode, Policy};
+use table::{Refusal, Table};
 use tablefile::read_table;
 
 // Makes the calls of these steps on a fresh run, in their order.
@@ -22,24 +21,12 @@ fn play<P: Policy + Drop>(policy: P, table: &Table, steps: &mut [Step])
     }
 }
 
-// Under the policy that the table's code asks for; one test here in place of one at each comparison.
-fn play_by_code(table: &Table, steps: &mut [Step])
-    ensures { Played (content table.now) (chosen_order (content table.now)) steps.old steps.new }
-{
-    match table.policy() {
-        PolicyCode::Fixed => play(Fixed, table, steps),
-        PolicyCode::Deadline => play(Deadline, table, steps),
-        PolicyCode::Arrival => play(Arrival, table, steps),
-        PolicyCode::Bands => play(Bands::new(table.band(), Fixed, Deadline), table, steps),
-    }
-}
-
 fn play_file(file: &[u8], steps: &mut [Step]) -> Result<usize, Refusal>
     ensures { PlayedFile file.now steps.old steps.new result }
 {
     let mut table = Table::fresh();
     read_table(file, &mut table)?;
-    play_by_code(&table, steps);
+    play(ByCode, &table, steps);
     Ok(steps.len())
 }
 

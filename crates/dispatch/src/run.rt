@@ -73,6 +73,7 @@ pub struct Run<P: Policy> {
     station: Station,
 }
 
+// That policy and table stay is a named clause of each call, for callers; one record of both would be no plainer to them.
 impl<P: Policy> Run<P> {
     /// A run at time 0 with no jobs; its mode is the table's.
     pub fn new(policy: P, table: &Table) -> Run<P>

@@ -1,4 +1,4 @@
-use Rattle.std.proofs.Common.{◌≡◌, ◌+◌, ◌≤◌, [], ◌∷◌, length, map, take, set, sym, refl, ap, ◌∙◌, arith, rules, tests, length-append, map-id}
+use Rattle.std.proofs.Common.{◌≡◌, ◌≤◌, [], ◌∷◌, length, take, set, sym, refl, ap, ◌∙◌, arith, rules, tests, length-append, map-id}
 use Rattle.std.proofs.lemmas.Iterator.{YieldsList-from_slice}
 use Rattle.std.proofs.lemmas.Iterator.Consumers.{YieldsList-from_filter_map, YieldsList-so_far, YieldsList-end}
 use Rattle.std.proofs.lemmas.List.{set-get_or, length-take}

@@ -42,7 +42,7 @@ impl Line {
         ensures value { result ≡ first_release (line_summary self).waiting }
         ensures some { OnSome result (1 ≤ self.len) }
     {
-        self.releases[..self.len].first().copied()
+        (self.len > 0).then_some(self.releases[0])
     }
 
     // Whether a release at this time comes too soon.

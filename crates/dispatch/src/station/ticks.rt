@@ -12,6 +12,7 @@ use crate::replies::Ticked;
 use crate::stage::{Outcome, Stage};
 use table::Mode;
 
+// That table and time stay is a clause of each step: a station is one plain struct, which holds the table beside what changes.
 impl Station {
     // The first job of the chosen task; none where no task is chosen or no job of it waits.
     pub(crate) fn front(&self, chosen: Option<usize>) -> Option<Front>
