@@ -7,3 +7,4 @@ pub mod Within
 pub mod Timeline
 pub mod Due
 pub mod FirstMiss
+pub mod Shown

@@ -1,11 +1,14 @@
 //! The first deadline that a worst course misses.
+ghost use Rattle.std.specs.Prelude.{Some};
 ghost use Rattle.table.specs.Model.{content};
 ghost use Rattle.rehearsal.specs.FirstMiss.{Sought, LateSeen};
+ghost use Rattle.rehearsal.specs.Shown.{miss_text};
 
 use crate::seeking::seek;
 use crate::worst::{CLOCK_TICKS, course_to_play};
 use analysis::Row;
 use policy::Policy;
+use std::fmt;
 use table::{Refusal, Table};
 
 /// A deadline that was missed: the job of this task, released then, was unfinished at this time.
@@ -17,6 +20,14 @@ pub struct Miss {
     pub release: u32,
     /// Its deadline.
     pub time: u32,
+}
+
+impl fmt::Display for Miss {
+    ghost output = { λ miss. Some (miss_text miss) };
+
+    fn fmt<W: fmt::Write>(&self, f: &mut fmt::Formatter<W>) -> fmt::Result {
+        write!(f, "missed {}@{} at {}", self.task, self.release, self.time)
+    }
 }
 
 /// Plays the worst course of a task at its row's offset on a fresh run, until the row's response has passed since the last release of the task, and answers the first job that was unfinished as its deadline came, that of the lowest-numbered task if there are several; none where every job met its deadline.

@@ -39,7 +39,7 @@ fn first_due<P: Policy>(run: &Run<P>, table: &Table, time: u32) -> Option<Miss>
     requires { table.now ≡ run.now.station.table }
     ensures { (calls : List Call) → Answered (P.meaning run.now.policy (content table.now)) run.now.station calls → DueFirst (content table.now) (play (content table.now) (P.meaning run.now.policy (content table.now)) start calls) time result }
 {
-    // A loop, as the search in `seek`: `find_map` over calls whose promise is no function of the number leaves nothing to the proof.
+    // A loop, as in `take_rank` of `priority`: there `find_map` was tried, and its proof did not close.
     for task in 0..table.count() {
         if let Some(release) = due_release(run, table, task, time) {
             return Some(Miss {

@@ -12,8 +12,7 @@ use table::{Refusal, Table, Task};
 fn print_seen(rt: &HostRuntime, seen: Result<Option<u32>, Refusal>) -> io::Result<()> {
     match seen {
         Ok(Some(response)) => println!(rt; " {response}"),
-        Ok(None) => println!(rt; " -"),
-        Err(_) => println!(rt; " -"),
+        Ok(None) | Err(_) => println!(rt; " -"),
     }
 }
 
@@ -48,10 +47,7 @@ fn print_miss(rt: &HostRuntime, missed: Result<Option<Miss>, Refusal>) -> io::Re
     let Ok(Some(miss)) = missed else {
         return Ok(());
     };
-    let task = miss.task;
-    let release = miss.release;
-    let time = miss.time;
-    println!(rt; "  missed {task}@{release} at {time}")
+    println!(rt; "  {miss}")
 }
 
 fn print_task(
@@ -71,10 +67,8 @@ fn print_task(
 }
 
 pub(crate) fn print_tasks(rt: &HostRuntime, table: &Table, rows: &[Row]) -> io::Result<()> {
-    for (number, task) in table.tasks().iter().enumerate() {
-        if number < rows.len() {
-            print_task(rt, table, number, task, rows[number])?;
-        }
+    for (number, (task, row)) in table.tasks().iter().zip(rows).enumerate() {
+        print_task(rt, table, number, task, *row)?;
     }
     Ok(())
 }
