@@ -15,11 +15,7 @@ use tablefile::read_table;
 pub extern "C" fn station_plan(file: &[u8], out: &mut [u8]) -> Outcome
     ensures { ReportTold file.now out.old out.new result }
 {
-    let mut rows = [Row {
-        response: 0,
-        offset: 0,
-        deadline: 0,
-    }; MOST_TASKS];
+    let mut rows = [Row::default(); MOST_TASKS];
     Outcome::from(plan(file, &mut rows, out))
 }
 

@@ -63,11 +63,7 @@ fn tell(planned: Result<usize, Refusal>, out: &mut [u8]) -> usize
 pub fn answer(input: &[u8], out: &mut [u8]) -> usize
     ensures { Answered input.now out.old out.new result }
 {
-    let mut rows = [Row {
-        response: 0,
-        offset: 0,
-        deadline: 0,
-    }; MOST_TASKS];
+    let mut rows = [Row::default(); MOST_TASKS];
     let planned = plan(input, &mut rows, out);
     tell(planned, out)
 }

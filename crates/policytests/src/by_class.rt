@@ -1,5 +1,5 @@
 //! The policy of `classes` in both modes.
-use crate::playing::{BLANK, counts, first_difference, response_at, task, unattained};
+use crate::playing::{counts, first_difference, response_at, task, unattained};
 use analysis::{Judgement, Verdict, judge};
 use classes::{Classes, Member};
 use dispatch::Run;
@@ -94,7 +94,7 @@ fn late(rt: HostRuntime) -> Result<(), Fail> {
     let Some(table) = four(Mode::Preemptive, 5) else {
         return Err(Fail::new("no table"));
     };
-    let mut rows = [BLANK; 4];
+    let mut rows = [Row::default(); 4];
     assert_eq!(rt;
         judge(&policy(), &table, &mut rows),
         Ok(Judgement {
@@ -116,7 +116,7 @@ fn rows_displacing(rt: HostRuntime) -> Result<(), Fail> {
     let Some(table) = four(Mode::Preemptive, 12) else {
         return Err(Fail::new("no table"));
     };
-    let mut rows = [BLANK; 4];
+    let mut rows = [Row::default(); 4];
     assert_eq!(rt;
         judge(&policy(), &table, &mut rows),
         Ok(Judgement {
@@ -138,7 +138,7 @@ fn rows_holding(rt: HostRuntime) -> Result<(), Fail> {
     let Some(table) = four(Mode::NonPreemptive, 12) else {
         return Err(Fail::new("no table"));
     };
-    let mut rows = [BLANK; 4];
+    let mut rows = [Row::default(); 4];
     assert_eq!(rt;
         judge(&policy(), &table, &mut rows),
         Ok(Judgement {

@@ -1,5 +1,5 @@
 //! Piles of three bands in both modes: tasks 0 and 1, tasks 2 and 3, and the rest.
-use crate::playing::{BLANK, counts, first_difference, response_at, task, unattained};
+use crate::playing::{counts, first_difference, response_at, task, unattained};
 use analysis::{Judgement, Verdict, judge};
 use classes::{Classes, Member};
 use dispatch::Run;
@@ -128,7 +128,7 @@ fn rows_displacing(rt: HostRuntime) -> Result<(), Fail> {
     let Some(table) = six(Mode::Preemptive) else {
         return Err(Fail::new("no table"));
     };
-    let mut rows = [BLANK; 6];
+    let mut rows = [Row::default(); 6];
     assert_eq!(rt;
         judge(&shipped(), &table, &mut rows),
         Ok(Judgement {
@@ -164,7 +164,7 @@ fn rows_holding(rt: HostRuntime) -> Result<(), Fail> {
     let Some(table) = six(Mode::NonPreemptive) else {
         return Err(Fail::new("no table"));
     };
-    let mut rows = [BLANK; 6];
+    let mut rows = [Row::default(); 6];
     assert_eq!(rt;
         judge(&shipped(), &table, &mut rows),
         Ok(Judgement {

@@ -7,13 +7,6 @@ use policy::Policy;
 use rehearsal::play_worst_course;
 use table::{Name, Table, Task};
 
-/// A row before it is judged.
-pub const BLANK: Row = Row {
-    response: 0,
-    offset: 0,
-    deadline: 0,
-};
-
 /// A task by its C, T, D and rank.
 pub fn task(cost: u32, period: u32, deadline: u32, rank: u8) -> Task {
     Task {

@@ -7,7 +7,7 @@ use callfile::read_calls;
 use console::{INPUT_BYTES, front, print_refusal, read_input};
 use dispatch::{Event, Reply, Step, Ticked};
 use policy::ByCode;
-use printing::{print_steps, print_tasks, print_verdict};
+use printing::{print_steps, print_tasks};
 use rehearsal::judged_replay;
 use std::{env, fs, io};
 use table::{MOST_TASKS, Refusal, Table};
@@ -45,17 +45,14 @@ fn main(rt: HostRuntime) -> io::Result<()> {
     };
     let mut places = vec![in rt.alloc(); unmade; text.len()]?;
     let count = read_calls(&text, &mut places);
-    let steps = &mut places[0..count];
+    let steps = &mut places[..count];
     let mut table = Table::fresh();
-    let mut rows = [Row {
-        response: 0,
-        offset: 0,
-        deadline: 0,
-    }; MOST_TASKS];
+    let mut rows = [Row::default(); MOST_TASKS];
     match rehearsed(front(&buffer, len), &mut table, &mut rows, steps) {
         Ok(judgement) => {
             print_tasks(&rt, &table, &rows)?;
-            print_verdict(&rt, judgement.verdict)?;
+            let verdict = judgement.verdict;
+            println!(rt; "{verdict}")?;
             print_steps(&rt, steps)
         }
         Err(refusal) => print_refusal(&rt, refusal),
