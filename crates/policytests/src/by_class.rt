@@ -1,6 +1,6 @@
 //! The policy of `classes` in both modes.
 use crate::playing::{counts, first_difference, response_at, task, unattained};
-use analysis::{Judgement, Verdict, judge};
+use analysis::{Judgement, Row, Verdict, judge};
 use classes::{Classes, Member};
 use dispatch::Run;
 use std::test::Fail;

@@ -1,6 +1,6 @@
 //! Piles of three bands in both modes: tasks 0 and 1, tasks 2 and 3, and the rest.
 use crate::playing::{counts, first_difference, response_at, task, unattained};
-use analysis::{Judgement, Verdict, judge};
+use analysis::{Judgement, Row, Verdict, judge};
 use classes::{Classes, Member};
 use dispatch::Run;
 use policy::{Arrival, Bands, Deadline, Fixed};
