@@ -21,9 +21,6 @@ returns-in_err-header c =
     let p = err_from_is_err_and c.from_residual.result c.from_residual.ensures.1 in
     rw (p.1, p.2) (header_refused c.args.bytes.now c.in_err-header.field-0.0 (c.in_err-header.ensures.value ∙ (λ j. header_at (c.new-reader.ensures.input j) (c.new-reader.ensures.place j))))
 
-pub slice_bounds-room-end : goal.slice_bounds-room-end
-slice_bounds-room-end c = few_tasks c.args.bytes.now c.in_ok-header.header (head (goal.at.slice_bounds-room-end c).In_ok-header) (λ i. omega (arith, c.type_inv.bytes i))
-
 pub slice_bounds-tasks-end : goal.slice_bounds-tasks-end
 slice_bounds-tasks-end c =
     let few : c.in_ok-header.header.count ≤ 24 = few_tasks c.args.bytes.now c.in_ok-header.header (head (goal.at.slice_bounds-tasks-end c).In_ok-header) (λ i. omega (arith, c.type_inv.bytes i)) in
