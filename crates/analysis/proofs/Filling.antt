@@ -1,5 +1,5 @@
--- What a table finds is in range, and what `from_fn` makes holds of each element.
-use Rattle.std.proofs.Common.{◌≡◌, ℕ, zero, suc, Bool, true, false, eqb, refl, ◌+◌, ◌<◌, ◌≤◌, List, get_or, Some, sym, subst, arith}
+-- Filling a list, one element after the other or by `from_fn`, and what a table finds.
+use Rattle.std.proofs.Common.{◌≡◌, ℕ, zero, suc, Bool, true, false, eqb, refl, ◌+◌, ◌<◌, ◌≤◌, List, length, get_or, drop, set, Some, sym, ap, ◌∙◌, subst, arith, get_or-set_other, get_or-set_same, drop-drop, drop-set-lt, below_more}
 use Rattle.std.specs.Fn.{Called, Mut}
 use Rattle.std.specs.Array.{IsFromFnResultFrom}
 use Rattle.std.proofs.lemmas.Bool.Decides.{nat_tests}
@@ -10,6 +10,17 @@ use Rattle.table.proofs.Tables.{table_checked}
 use Rattle.table.proofs.Ranges.{Ranges, count_ranges, task_ranges}
 use Rattle.table.specs.declared.task.Task.{Task}
 use Rattle.table.specs.declared.checked.Table.{Table}
+
+-- what holds of the elements below j, and of the one now written at j, holds of those below j + 1; d is the default that reads have
+pub filled_more : {X : Type 0} (d : X) (P : ℕ → X → Type 0) (xs : List X) (j : ℕ) (x : X) → j < length xs → ((k : ℕ) → k < j → P k (get_or xs k d)) → P j x → (k : ℕ) → k < j + 1 → P k (get_or (set xs j x) k d)
+filled_more d P xs j x h before here =
+    below_more (λ k. P k (get_or (set xs j x) k d)) j
+    (λ k below. subst (P k) (sym (get_or-set_other xs j k x d (omega arith))) (before k below))
+    (subst (P j) (sym (get_or-set_same xs j x d h)) here)
+
+-- what stands behind a write stays
+pub rest_more : {X : Type 0} (xs before : List X) (j : ℕ) (x : X) → drop j xs ≡ drop j before → drop (j + 1) (set xs j x) ≡ drop (j + 1) before
+rest_more xs before j x same = drop-set-lt (j + 1) xs j x (omega arith) ∙ sym (drop-drop 1 j xs) ∙ ap (drop 1) same ∙ drop-drop 1 j before
 
 -- a table's tasks have room among 24
 pub few_tasks : (t : Table) → task_count (content t) ≤ 24
