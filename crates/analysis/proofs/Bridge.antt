@@ -1,5 +1,5 @@
 -- From lanes to the order: lanes made from a lawful order count, block and answer as the definitions say.
-use Rattle.std.proofs.Common.{◌≡◌, ℕ, ◌+◌, ◌-◌, ◌*◌, ◌/◌, ◌<◌, ◌≤◌, min, Bool, true, false, cond, not, ◌&&◌, eqb, ltb, leb, List, map, length, ℤ, pos, negsuc, ◌+ℤ◌, nat_abs, ◌≤ℤ◌, sym, refl, ap, ◌∙◌, subst, ap₂, mul-zero, arith}
+use Rattle.std.proofs.Common.{◌≡◌, ℕ, ◌+◌, ◌-◌, ◌*◌, ◌/◌, ◌<◌, ◌≤◌, min, Bool, true, false, cond, not, ◌&&◌, eqb, ltb, leb, List, map, length, ℤ, pos, negsuc, ◌+ℤ◌, nat_abs, ◌≤ℤ◌, sym, refl, ap, ◌∙◌, ap₂, mul-zero, arith}
 use Rattle.std.proofs.lemmas.Bool.Decides.{nat_tests}
 use Rattle.std.proofs.lemmas.Int.{ints}
 use lib.Signed.{le_z}
@@ -48,20 +48,6 @@ lead_small (Within y) small = go y small.0 small.1
     go : (z : ℤ) → negsuc 99999 ≤ℤ z → z ≤ℤ pos 100000 → nat_abs (z +ℤ pos 100000) ≤ 200000
     go (pos n) low high = omega (arith, ints)
     go (negsuc n) low high = grind (arith, ints, nat_tests)
-
--- the reach that is asked is always in range
-pub asked_small : (s : TaskSet) (o : Order) → Lawful s o → (i j : ℕ) → SmallReach (reach_answer s o i j)
-asked_small s o lawful i j = go (ltb i (task_count s)) refl (ltb j (task_count s)) refl (eqb i j) refl
-  where
-    go : (p : Bool) → ltb i (task_count s) ≡ p → (q : Bool) → ltb j (task_count s) ≡ q → (e : Bool) → eqb i j ≡ e → SmallReach (reach_answer s o i j)
-    go true hp true hq false he =
-        let ki : i < task_count s = grind (arith, nat_tests) in
-        let kj : j < task_count s = grind (arith, nat_tests) in
-        let ne : i ≡ j → ⊥ = λ same. absurd (let z : ◌≡◌ {A = ℕ} 0 1 = grind (arith, nat_tests) in omega arith) in
-        subst SmallReach (sym (ap₂ (λ b e. cond b (cond e (Within (pos 0)) (o.reach i j)) Never) (ap₂ ◌&&◌ hp hq) he)) (lawful.reach_range i j ki kj ne)
-    go true hp true hq true he = subst SmallReach (sym (ap₂ (λ b e. cond b (cond e (Within (pos 0)) (o.reach i j)) Never) (ap₂ ◌&&◌ hp hq) he)) (record { le = tt }, record { le = tt })
-    go true hp false hq e he = subst SmallReach (sym (ap (λ b. cond b (cond (eqb i j) (Within (pos 0)) (o.reach i j)) Never) (ap₂ ◌&&◌ hp hq))) tt
-    go false hp q hq e he = subst SmallReach (sym (ap (λ b. cond b (cond (eqb i j) (Within (pos 0)) (o.reach i j)) Never) (ap₂ ◌&&◌ hp hq))) tt
 
 -- lanes made for the analysis of task i
 pub record Made (s : TaskSet) (o : Order) (i : ℕ) (ls : List Lane) : Type 0 where

@@ -1,6 +1,5 @@
 -- Counts of releases in closed form.
 use Rattle.std.proofs.Common.{◌≡◌, ℕ, zero, suc, ◌+◌, ◌-◌, ◌*◌, ◌/◌, ◌<◌, ◌≤◌, min, Bool, true, false, cond, ◌&&◌, ltb, leb, sym, refl, ap, ◌∙◌, ap₂, suc-mul, div-lt_iff_lt-mul, mul-le-mul, le-div_iff_mul-le, arith}
-use Rattle.std.proofs.Math.Nat.{add-div_right}
 use Rattle.std.proofs.lemmas.Bool.Decides.{nat_tests}
 use Rattle.theory.specs.BusyPeriod.{ceil_div}
 use Rattle.theory.specs.Sums.{count_below}
@@ -33,10 +32,6 @@ below_ceil k t d pos = go (ltb (k * d) t) refl
         none : (c : Bool) → ltb k (ceil_div t d) ≡ c → ltb k (ceil_div t d) ≡ false
         none true f = let l : k < ceil_div t d = grind (arith, nat_tests) in let h = from l in let z : ◌≡◌ {A = ℕ} 0 1 = grind (arith, nat_tests) in absurd (omega arith)
         none false f = f
-
--- the jobs released up to a tick: one at 0, and one for each whole T
-pub ceil_next : (t d : ℕ) → 1 ≤ d → ceil_div (t + 1) d ≡ t / d + 1
-ceil_next t d pos = ap (λ n. n / d) (omega arith) ∙ add-div_right t pos
 
 pub ceil_small : (t d : ℕ) → 1 ≤ d → ceil_div t d ≤ t
 ceil_small t d pos =

@@ -1,5 +1,5 @@
 -- The work of lanes grows with the time.
-use Rattle.std.proofs.Common.{ℕ, ◌+◌, ◌-◌, ◌*◌, ◌/◌, ◌<◌, ◌≤◌, List, length, mul-le-mul, mul-le-mul_right, div-mul-le_self, arith}
+use Rattle.std.proofs.Common.{ℕ, ◌+◌, ◌-◌, ◌*◌, ◌/◌, ◌≤◌, List, length, mul-le-mul, mul-le-mul_right, div-mul-le_self, arith}
 use Rattle.std.proofs.lemmas.Nat.{le-div}
 use Rattle.theory.specs.BusyPeriod.{ceil_div}
 use Rattle.analysis.specs.Lanes.{lane_at, lane_jobs, lanes_work}

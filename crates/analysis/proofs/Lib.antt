@@ -1,4 +1,5 @@
 pub mod Growth
+pub mod Laws
 pub mod Listed
 pub mod Windows
 pub mod Bests

@@ -7,7 +7,7 @@ use Rattle.analysis.specs.declared.lanes.Lane.{Lane}
 
 -- past the last lane, one that no statement speaks of
 abbrev pub no_lane : Lane
-no_lane = record { cost = 0; period = 1; lead = 0; limit = 0; cost_high = lit≤ tt; period_low = lit≤ tt; lead_high = lit≤ tt }
+no_lane = record { cost = 0; period = 1; lead = 0; limit = 0; cost_high = lit≤ tt; period_low = lit≤ tt; period_high = lit≤ tt; lead_high = lit≤ tt }
 
 abbrev pub lane_at : List Lane → ℕ → Lane
 lane_at ls j = slice_index_or ls j no_lane

@@ -1,5 +1,5 @@
 -- What each task blocks, the longest of it, and the first task that blocks longest.
-use Rattle.std.proofs.Common.{◌≡◌, ℕ, zero, suc, ◌+◌, ◌-◌, ◌<◌, ◌≤◌, max, Bool, true, false, cond, not, ◌&&◌, eqb, ltb, map, Some, None, Option, pos, negsuc, sym, refl, ap, ◌∙◌, inl, inr, ◌⊎◌, arith, add-one, add-zero}
+use Rattle.std.proofs.Common.{◌≡◌, ℕ, zero, suc, ◌-◌, ◌<◌, max, Bool, true, false, cond, not, ◌&&◌, eqb, ltb, map, Some, None, pos, negsuc, sym, refl, ap, ◌∙◌, inl, inr, ◌⊎◌, arith, add-one}
 use Rattle.std.specs.List.{fold, range_with_len}
 use Rattle.std.specs.Option.{unwrap_or}
 use Rattle.std.proofs.lemmas.Bool.Decides.{nat_tests}

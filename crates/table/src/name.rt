@@ -6,7 +6,9 @@ ghost use Rattle.table.specs.Sporadic.{name_in_range};
 pub(crate) const MOST_LETTERS: usize = 8;
 
 /// A name that keeps its rules: the first `len` of `bytes`.
-// A buffer with its length, as there is no heap. No `Model`: the letters forget the bytes behind `len`, so they give no name back, and `Copy` needs that.
+// A buffer with its length: there is no heap, and a name is `Copy`. The kit's `ArrayString` proves here, but not `tablefile::read_table`
+// above it: the checker then says that it cannot build its plan for `Task`.
+// No `Model`: the letters forget the bytes behind `len`, so they give no name back, and `Copy` needs that.
 #[derive(Clone, Copy)]
 pub struct Name {
     bytes: [u8; MOST_LETTERS],

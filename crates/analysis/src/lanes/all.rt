@@ -10,18 +10,17 @@ use super::Lane;
 fn work(lanes: &[Lane], own: u64, t: u32) -> u64
     requires few { length lanes.now ≤ 24 }
     requires light { own ≤ 2 ^ 45 }
-    requires some { 1 ≤ t }
+    requires short { t ≤ 60000 }
     ensures { result ≡ own + lanes_work lanes.now t }
 {
-    let last = t - 1;
-    own + lanes.iter().map(|lane| lane.share(last)).sum::<u64>()
+    own + lanes.iter().map(|lane| lane.share(t)).sum::<u64>()
 }
 
 // The least t from `start` to `cap` that covers its own work; none where there is none.
 pub(crate) fn climb(lanes: &[Lane], own: u64, start: u32, cap: u32) -> Option<u32>
     requires few { length lanes.now ≤ 24 }
     requires light { own ≤ 2 ^ 45 }
-    requires some { 1 ≤ start }
+    requires short { cap ≤ 60000 }
     ensures { Climbed (λ t. own + lanes_work lanes.now t) start cap result }
 {
     // A loop: each turn jumps to the work of the last one, which no iterator over numbers does.

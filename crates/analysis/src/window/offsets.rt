@@ -51,6 +51,7 @@ fn restart(work: u64, last_work: u64, last: u32) -> u32
 }
 
 // The longer of the best so far and the response at a; a tie keeps the earlier offset.
+// A pair of response and offset: the form in which an analysis answers.
 fn better(best: (u32, u32), response: u32, a: u32) -> (u32, u32)
     ensures longer { result.0 ≡ (if nat_lt best.0 response then response else best.0) }
     ensures first { result.1 ≡ (if nat_lt best.0 response then a else best.1) }

@@ -35,7 +35,7 @@ pub climb-requires : goal.climb-requires
 climb-requires c =
     let few = few_tasks c.args.table.now in
     let short = length-take-le c.count.result c.from_fn-lanes.result (omega (arith, few, c.count.ensures, c.from_fn-lanes.ensures.items.long)) in
-    record { few = omega (arith, few, c.count.ensures, short); light = omega arith; some = omega arith }
+    record { few = omega (arith, few, c.count.ensures, short); short = omega arith; light = omega arith }
 
 pub returns : goal.returns
 unfolding front

@@ -4,13 +4,13 @@ use Rattle.std.proofs.lemmas.Slice.{drop-append-drop}
 use Rattle.table.specs.Model.{content}
 use Rattle.table.specs.Rules.{task_count}
 use Rattle.table.proofs.Tables.{table_checked}
-use Rattle.policy.proofs.Lawfulness.{lawful}
 use Rattle.analysis.specs.Busy.{Busy}
 use Rattle.analysis.specs.Judged.{Given, RowOf, VerdictOf, Meets, no_row, row_at}
 use Rattle.analysis.specs.declared.rows.Judgement.{Judgement}
 use Rattle.analysis.specs.declared.rows.Row.{Row}
 use Rattle.analysis.specs.declared.rows.Verdict.{Verdict}
 use Rattle.analysis.specs.declared.rows.Verdict.TheVariants.{Admitted, Late}
+use Rattle.analysis.proofs.Laws.{table_laws}
 use Rattle.analysis.proofs.Promises.{rows_bound, rows_attained, verdict_exact}
 use Rattle.analysis.proofs.judging.judge.Goals as goal
 
@@ -37,7 +37,7 @@ returns g c =
     let o = g.P.Policy.meaning p s in
     let met = g.met.P.Policy in
     let checked = table_checked t in
-    let laws = lawful s o (met.total p s checked) (met.transitive p s checked) (met.earlier p s checked) (met.range p s checked) (met.rule p s checked) in
+    let laws = table_laws g.P.Policy.meaning met.total met.transitive met.earlier met.range met.rule p t in
     let front = c.fill.new.rows in
     let rest = drop n c.args.rows.now in
     let after = front ++ rest in

@@ -1,12 +1,11 @@
 use Rattle.std.proofs.Common.{ℕ, ◌<◌, ◌≤◌, refl, ap, length-take-le, arith, rules}
 use Rattle.table.specs.Model.{content}
-use Rattle.table.proofs.Tables.{table_checked}
 use Rattle.table.specs.Sporadic.{Sporadic}
-use Rattle.policy.proofs.Lawfulness.{lawful}
 use Rattle.table.specs.Rules.{task_count}
 use Rattle.analysis.specs.Lanes.{no_lane, lane_at}
 use Rattle.analysis.specs.Reaches.{LaneTo}
 use Rattle.analysis.proofs.Filling.{few_tasks, found_ranges, made_by}
+use Rattle.analysis.proofs.Laws.{table_laws}
 use Rattle.analysis.proofs.OneRow.{own_is, front_fits, front_worst}
 use Rattle.analysis.specs.declared.window.Own.{Own}
 use Rattle.analysis.proofs.judging.Analysis.row_of.Goals as goal
@@ -27,7 +26,7 @@ worst_response-response-requires g c =
     let p = c.args.self.now.policy.now in
     let o = g.P.Policy.meaning p s in
     let met = g.met.P.Policy in
-    let laws = lawful s o (met.total p s (table_checked t)) (met.transitive p s (table_checked t)) (met.earlier p s (table_checked t)) (met.range p s (table_checked t)) (met.rule p s (table_checked t)) in
+    let laws = table_laws g.P.Policy.meaning met.total met.transitive met.earlier met.range met.rule p t in
     let found = c.in-Some.ensures in
     let items = c.from_fn-lanes.ensures.items in
     let each : (j : ℕ) → j < task_count s → LaneTo s o c.args.i j (lane_at c.from_fn-lanes.result j) = λ j h. made_by _ (λ k l. k < task_count s → LaneTo s o c.args.i k l) no_lane _ c.from_fn-lanes.result (λ k l q call. search rules) 24 0 items.each j (omega arith) (omega (arith, few_tasks t)) h in
@@ -48,7 +47,7 @@ returns g c =
     let p = c.args.self.now.policy.now in
     let o = g.P.Policy.meaning p s in
     let met = g.met.P.Policy in
-    let laws = lawful s o (met.total p s (table_checked t)) (met.transitive p s (table_checked t)) (met.earlier p s (table_checked t)) (met.range p s (table_checked t)) (met.rule p s (table_checked t)) in
+    let laws = table_laws g.P.Policy.meaning met.total met.transitive met.earlier met.range met.rule p t in
     let found = c.in-Some.ensures in
     let items = c.from_fn-lanes.ensures.items in
     let each : (j : ℕ) → j < task_count s → LaneTo s o c.args.i j (lane_at c.from_fn-lanes.result j) = λ j h. made_by _ (λ k l. k < task_count s → LaneTo s o c.args.i k l) no_lane _ c.from_fn-lanes.result (λ k l q call. search rules) 24 0 items.each j (omega arith) (omega (arith, few_tasks t)) h in
