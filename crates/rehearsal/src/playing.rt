@@ -75,6 +75,7 @@ impl<'a, P: Policy> Playing<'a, P> {
         ensures course { self.new.course.now ≡ self.old.course.now }
         ensures answered { (calls : List Call) → Answered (P.meaning self.old.run.policy (content self.old.table.now)) self.old.run.station calls → Answered (P.meaning self.old.run.policy (content self.old.table.now)) self.new.run.station (calls ++ releases_below (content self.old.table.now) (P.meaning self.old.run.policy (content self.old.table.now)) self.old.course.now.task self.old.course.now.offset time (task_count (content self.old.table.now))) }
     {
+        // A loop: `for_each` with the run in its closure would be no plainer, as nothing is picked or gathered.
         for task in 0..self.table.count() {
             let told = self.course.releases(self.table, task, time);
             release_if(&mut self.run, told, task);
@@ -105,6 +106,7 @@ pub(crate) fn play<P: Policy + Drop>(
 {
     let mut playing = Playing::new(policy, table, course);
     let mut seen = None;
+    // A loop: each turn changes the run and keeps the last answer; a `fold` with the run in its closure would be no plainer.
     for time in 0..end {
         let ticked = playing.tick(time);
         seen = response_told(ticked, course.task(), course.arrival()).or(seen);

@@ -38,16 +38,14 @@ impl<P: Policy> Playing<'_, P> {
     fn first_due(&self, time: u32) -> Option<Miss>
         ensures { (calls : List Call) → Answered (P.meaning self.now.run.policy (content self.now.table.now)) self.now.run.station calls → DueFirst (content self.now.table.now) (play (content self.now.table.now) (P.meaning self.now.run.policy (content self.now.table.now)) start calls) time result }
     {
-        for task in 0..self.table.count() {
-            if let Some(release) = self.due_release(task, time) {
-                return Some(Miss {
-                    task,
-                    release,
-                    time,
-                });
-            }
-        }
-        None
+        (0..self.table.count()).find_map(|task| {
+            let release = self.due_release(task, time)?;
+            Some(Miss {
+                task,
+                release,
+                time,
+            })
+        })
     }
 }
 
@@ -63,6 +61,7 @@ pub(crate) fn seek<P: Policy + Drop>(
     ensures { MissedFirst (content table.now) (P.meaning policy (content table.now)) course.now.task course.now.offset end result }
 {
     let mut playing = Playing::new(policy, table, course);
+    // A loop: each turn changes the run, so a chain would hand its state from closure to closure and be no plainer.
     for time in 0..end {
         let _ = playing.tick(time);
         if let Some(miss) = playing.first_due(time + 1) {
