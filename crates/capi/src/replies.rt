@@ -8,7 +8,7 @@ use crate::steps::Reply;
 use dispatch::Ticked;
 use table::Refusal;
 
-// An answer of this kind with up to three numbers.
+// An answer of this kind with up to three numbers. The kinds are numbers, as C takes them.
 fn told(kind: u32, first: usize, second: usize, third: usize) -> Reply
     ensures { result ≡ record { kind = kind; first = first; second = second; third = third; fourth = 0; fifth = 0 } }
 {

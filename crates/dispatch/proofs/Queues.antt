@@ -1,11 +1,10 @@
 -- The waiting jobs of a line, as its array of releases has them.
-use Rattle.std.proofs.Common.{◌≡◌, ℕ, zero, suc, ◌+◌, ◌-◌, ◌<◌, ◌≤◌, List, [], ◌∷◌, ◌++◌, map, length, get_or, take, set, Some, refl, ap, ◌∙◌, arith, length-take-le}
+use Rattle.std.proofs.Common.{◌≡◌, ℕ, zero, suc, ◌+◌, ◌-◌, ◌<◌, ◌≤◌, List, [], ◌∷◌, ◌++◌, map, length, get_or, take, set, refl, ap, ◌∙◌, arith, length-take-le}
 use lib.ListN.{length-map}
 use lib.Seq.{take-append-le}
 use Rattle.std.proofs.lemmas.List.{take_more_set}
 use Rattle.theory.specs.Lists.{In}
 use Rattle.theory.proofs.Search.{from_map}
-use Rattle.dispatch.specs.Leading.{first_release}
 use Rattle.dispatch.specs.Lines.{queue, line_summary}
 use Rattle.dispatch.specs.Summaries.{Pending, pending}
 use Rattle.dispatch.specs.declared.line.Line.{Line}
@@ -16,11 +15,6 @@ queue_long ran (x ∷ xs) = ap suc (length-map xs (λ q. pending q 0))
 
 pub line_long : (l : Line) → length (line_summary l).waiting ≡ l.len
 line_long l = queue_long l.ran (take l.len l.releases) ∙ length-take-le l.len l.releases (omega (arith, l.few, l.room))
-
-pub queue_first : (ran len : ℕ) (xs : List ℕ) → 1 ≤ len → length xs ≡ 8 → Some (get_or xs 0 0) ≡ first_release (queue ran (take len xs))
-queue_first ran zero xs h e = absurd (omega arith)
-queue_first ran (suc k) [] h e = absurd (omega arith)
-queue_first ran (suc k) (x ∷ xs) h e = refl
 
 -- a map with one more at the end
 pub map_snoc : {X Y : Type 0} (f : X → Y) (xs : List X) (y : X) → map f (xs ++ (y ∷ [])) ≡ map f xs ++ (f y ∷ [])

@@ -43,6 +43,7 @@ fn leader<P: Policy>(policy: &P, station: &Station) -> Option<Head>
     let table = station.table();
     let mut best = first;
     let next = first.task + 1;
+    // A loop: a `fold` would hand the best head through a closure that holds policy, table and station, and be no plainer.
     for task in next..table.count() {
         best = better(policy, &table, best, task, station.first(task));
     }
@@ -98,7 +99,7 @@ impl<P: Policy> Run<P> {
         self.station.release(task)
     }
 
-    // The job runs for the tick that has passed.
+    // The job runs for the tick that has passed. That the front is the first job of its line is asked, and is no ghost field of `Front`: it names the run's lines, which the front does not hold.
     fn serve(&mut self, front: Front, done: bool) -> Ticked
         requires { Fronted (content self.old.station.table) (board self.old.station.lines) front }
         ensures policy { self.new.policy ≡ self.old.policy }

@@ -56,6 +56,7 @@ fn fill_ranks(table: &Table) -> Result<Table, Refusal>
 {
     // Nothing is exchanged: the ranks to begin with are those of the table.
     let mut order = exchange_ranks(table, 1, 1);
+    // A loop: each turn makes the next order from the last and may refuse; `try_fold` would say the same around a closure.
     for left in (0..table.count()).rev() {
         let rank = left + 1;
         order = take_rank(&order, rank as u8).ok_or(Refusal::RankUnfilled { rank })?;

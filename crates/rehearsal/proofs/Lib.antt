@@ -8,3 +8,4 @@ pub mod Clock
 pub mod Overdue
 pub mod Firsts
 pub mod LateCourses
+pub mod Searches

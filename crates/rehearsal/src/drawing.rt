@@ -6,9 +6,9 @@ ghost use Rattle.courses.specs.OneCourse.{CourseOf};
 ghost use Rattle.dispatch.specs.Replies.{tick_told};
 ghost use Rattle.rehearsal.specs.Timeline.{mark, runs, timeline};
 
-use crate::playing::play_tick;
+use crate::playing::Playing;
 use courses::Course;
-use dispatch::{Run, Ticked};
+use dispatch::Ticked;
 use policy::Policy;
 use table::{Refusal, Table};
 
@@ -43,10 +43,10 @@ pub(crate) fn draw<P: Policy + Drop>(
     requires few { length marks.old ≤ 200 }
     ensures { marks.new ≡ timeline (content table.now) (P.meaning policy (content table.now)) course.now.task course.now.offset job (length marks.old) }
 {
-    let mut run = Run::new(policy, table);
+    let mut playing = Playing::new(policy, table, course);
     for (at, mark) in marks.iter_mut().enumerate() {
         let time = at as u32;
-        let ticked = play_tick(&mut run, table, course, time);
+        let ticked = playing.tick(time);
         let releases = course.releases(table, job, time);
         *mark = mark_of(releases, runs_now(ticked, job));
     }

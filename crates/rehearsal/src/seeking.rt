@@ -9,9 +9,8 @@ ghost use Rattle.rehearsal.specs.Due.{due_of, DueFirst};
 ghost use Rattle.rehearsal.specs.FirstMiss.{MissedFirst};
 
 use crate::misses::Miss;
-use crate::playing::play_tick;
+use crate::playing::Playing;
 use courses::Course;
-use dispatch::Run;
 use policy::Policy;
 use table::Table;
 
@@ -24,32 +23,30 @@ fn is_due(table: &Table, task: usize, release: u32, time: u32) -> bool
         .is_some_and(|known| known.deadline <= time.saturating_sub(release))
 }
 
-// The release of the oldest waiting job of a task, where its deadline is reached.
-fn due_release<P: Policy>(run: &Run<P>, table: &Table, task: usize, time: u32) -> Option<u32>
-    requires { table.now ≡ run.now.station.table }
-    ensures { (calls : List Call) → Answered (P.meaning run.now.policy (content table.now)) run.now.station calls → task < task_count (content table.now) → result ≡ due_of (content table.now) (play (content table.now) (P.meaning run.now.policy (content table.now)) start calls) time task }
-{
-    run.oldest(task)
-        .ok()?
-        .filter(|release| is_due(table, task, *release, time))
-}
+impl<P: Policy> Playing<'_, P> {
+    // The release of the oldest waiting job of a task, where its deadline is reached.
+    fn due_release(&self, task: usize, time: u32) -> Option<u32>
+        ensures { (calls : List Call) → Answered (P.meaning self.now.run.policy (content self.now.table.now)) self.now.run.station calls → task < task_count (content self.now.table.now) → result ≡ due_of (content self.now.table.now) (play (content self.now.table.now) (P.meaning self.now.run.policy (content self.now.table.now)) start calls) time task }
+    {
+        self.run
+            .oldest(task)
+            .ok()?
+            .filter(|release| is_due(self.table, task, *release, time))
+    }
 
-// The lowest-numbered task that has one, with this job.
-fn first_due<P: Policy>(run: &Run<P>, table: &Table, time: u32) -> Option<Miss>
-    requires { table.now ≡ run.now.station.table }
-    ensures { (calls : List Call) → Answered (P.meaning run.now.policy (content table.now)) run.now.station calls → DueFirst (content table.now) (play (content table.now) (P.meaning run.now.policy (content table.now)) start calls) time result }
-{
-    // A loop, as in `take_rank` of `priority`: there `find_map` was tried, and its proof did not close.
-    for task in 0..table.count() {
-        if let Some(release) = due_release(run, table, task, time) {
-            return Some(Miss {
+    // The lowest-numbered task that has one, with this job.
+    fn first_due(&self, time: u32) -> Option<Miss>
+        ensures { (calls : List Call) → Answered (P.meaning self.now.run.policy (content self.now.table.now)) self.now.run.station calls → DueFirst (content self.now.table.now) (play (content self.now.table.now) (P.meaning self.now.run.policy (content self.now.table.now)) start calls) time result }
+    {
+        (0..self.table.count()).find_map(|task| {
+            let release = self.due_release(task, time)?;
+            Some(Miss {
                 task,
                 release,
                 time,
-            });
-        }
+            })
+        })
     }
-    None
 }
 
 // The first miss along a course up to a time.
@@ -63,10 +60,11 @@ pub(crate) fn seek<P: Policy + Drop>(
     requires end { end ≤ 4000000000 }
     ensures { MissedFirst (content table.now) (P.meaning policy (content table.now)) course.now.task course.now.offset end result }
 {
-    let mut run = Run::new(policy, table);
+    let mut playing = Playing::new(policy, table, course);
+    // A loop: each turn changes the run, so a chain would hand its state from closure to closure and be no plainer.
     for time in 0..end {
-        let _ = play_tick(&mut run, table, course, time);
-        if let Some(miss) = first_due(&run, table, time + 1) {
+        let _ = playing.tick(time);
+        if let Some(miss) = playing.first_due(time + 1) {
             return Some(miss);
         }
     }

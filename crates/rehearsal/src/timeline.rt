@@ -12,6 +12,7 @@ const LINE_PLACES: usize = 200;
 
 /// Draws what task `job` does along the worst course of a task at an offset, one character for each tick and lent place: `#` it runs, `*` it releases and runs, `^` it releases, `.` neither.
 /// Answers whether it drew: not from an offset of 60,000 on, nor over more than 200 places. Refused where the table has no such task, and then where it has no such job's task; what is not drawn over stays as it was.
+// The answer is whether it drew: no value goes with the `bool`.
 pub fn draw_worst_course<P: Policy + Drop>(
     policy: P,
     table: &Table,

@@ -43,6 +43,7 @@ impl Station {
     pub(crate) fn first_waiting(&self) -> Option<Head>
         ensures { FirstWaiting (board self.now.lines) (task_count (content self.now.table)) result }
     {
+        // A loop: with `find_map` a tick in which no job waits takes 1.7 times what plain Rust takes, over its bar of 1.3.
         for task in 0..self.table.count() {
             if let Some(release) = self.first(task) {
                 return Some(Head { task, release });
