@@ -9,3 +9,4 @@ pub mod Exchanging
 pub mod Placing
 pub mod Rooms
 pub mod Unique
+pub mod Searches

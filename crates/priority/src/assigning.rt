@@ -41,13 +41,9 @@ fn take_rank(order: &Table, rank: u8) -> Option<Table>
     ensures reordered { Reordered (content order.now) result }
     ensures taken { (L : ℕ) → JudgedBusy (content order.now) L → Taken (content order.now) L rank result }
 {
-    // A loop: `find_map` was tried, and no proof brought what its closure answered to the contract.
-    for task in (0..order.count()).rev() {
-        if let Some(next) = try_rank(order, task, rank) {
-            return Some(next);
-        }
-    }
-    None
+    (0..order.count())
+        .rev()
+        .find_map(|task| try_rank(order, task, rank))
 }
 
 // The table with all ranks filled.
