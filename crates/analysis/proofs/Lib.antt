@@ -1,5 +1,4 @@
 pub mod Growth
-pub mod Laws
 pub mod Listed
 pub mod Windows
 pub mod Bests

@@ -10,7 +10,7 @@ use Rattle.analysis.specs.declared.rows.Judgement.{Judgement}
 use Rattle.analysis.specs.declared.rows.Row.{Row}
 use Rattle.analysis.specs.declared.rows.Verdict.{Verdict}
 use Rattle.analysis.specs.declared.rows.Verdict.TheVariants.{Admitted, Late}
-use Rattle.analysis.proofs.Laws.{table_laws}
+use Rattle.policy.proofs.Lawfulness.{table_laws}
 use Rattle.analysis.proofs.Promises.{rows_bound, rows_attained, verdict_exact}
 use Rattle.analysis.proofs.judging.judge.Goals as goal
 

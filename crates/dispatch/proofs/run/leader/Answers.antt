@@ -1,9 +1,8 @@
 use Rattle.std.proofs.Common.{◌≡◌, ◌+◌, ◌<◌, Some, None, sym, ap, ◌∙◌, subst, arith, rules}
 use Rattle.table.specs.Model.{content}
 use Rattle.table.specs.Rules.{task_count}
-use Rattle.table.proofs.Tables.{table_checked}
 use Rattle.policy.specs.Answers.{ahead_answer}
-use Rattle.policy.proofs.Lawfulness.{lawful}
+use Rattle.policy.proofs.Lawfulness.{table_laws}
 use Rattle.dispatch.specs.Leading.{Leading, better_of, first_release}
 use Rattle.dispatch.specs.Lines.{board}
 use Rattle.dispatch.proofs.Ahead.{leading_more}
@@ -21,8 +20,7 @@ loop-task-init g c =
     let s = content d.table in
     let o = g.P.Policy.meaning p s in
     let met = g.met.P.Policy in
-    let checked = table_checked d.table in
-    let laws = lawful s o (met.total p s checked) (met.transitive p s checked) (met.earlier p s checked) (met.range p s checked) (met.rule p s checked) in
+    let laws = table_laws g.P.Policy.meaning met.total met.transitive met.earlier met.range met.rule p d.table in
     let first = c.in_ok-first.first in
     let found = c.in_ok-first.ensures in
     subst (λ f. Leading (ahead_answer s o) (board d.lines) (first.task + 1) (better_of (ahead_answer s o) None first.task f)) found.1 (leading_more s o laws (board d.lines) first.task None found.2)
@@ -34,8 +32,7 @@ loop-task-preserved g c =
     let s = content d.table in
     let o = g.P.Policy.meaning p s in
     let met = g.met.P.Policy in
-    let checked = table_checked d.table in
-    let laws = lawful s o (met.total p s checked) (met.transitive p s checked) (met.earlier p s checked) (met.range p s checked) (met.rule p s checked) in
+    let laws = table_laws g.P.Policy.meaning met.total met.transitive met.earlier met.range met.rule p d.table in
     let best = c.loop-task.best in
     let task = c.loop-task.task in
     let is : Some c.better-best.result ≡ better_of (ahead_answer s o) (Some best) task (first_release (board d.lines task).waiting) = c.better-best.ensures ∙ ap (λ t. better_of (ahead_answer (content t) (g.P.Policy.meaning p (content t))) (Some best) task c.first.result) c.table-table.ensures ∙ ap (λ f. better_of (ahead_answer s o) (Some best) task f) c.first.ensures in

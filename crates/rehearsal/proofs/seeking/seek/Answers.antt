@@ -1,7 +1,7 @@
 use Rattle.std.proofs.Common.{◌≡◌, ◌+◌, ◌<◌, None, sym, refl, ◌∙◌, subst, arith}
 use Rattle.table.specs.Model.{content}
 use Rattle.table.proofs.Tables.{table_checked}
-use Rattle.policy.proofs.Lawfulness.{lawful}
+use Rattle.policy.proofs.Lawfulness.{table_laws}
 use Rattle.theory.specs.Course.{course_until}
 use Rattle.theory.specs.Machine.{play, start, last_time}
 use Rattle.dispatch.specs.Replies.{tick_told}
@@ -29,7 +29,7 @@ returns-in-Some g c =
     let p = c.new-playing.result.run.policy in
     let o = m p s in
     let checked = table_checked c.args.table.now in
-    let laws = lawful s o (met.total p s checked) (met.transitive p s checked) (met.earlier p s checked) (met.range p s checked) (met.rule p s checked) in
+    let laws = table_laws g.P.Policy.meaning met.total met.transitive met.earlier met.range met.rule p c.args.table.now in
     let inv = c.loop-time.invariant in
     let course = c.args.course.now in
     let d = c.loop-time.playing.run.station in
@@ -56,7 +56,7 @@ loop-time-preserved g c =
     let p = c.new-playing.result.run.policy in
     let o = m p s in
     let checked = table_checked c.args.table.now in
-    let laws = lawful s o (met.total p s checked) (met.transitive p s checked) (met.earlier p s checked) (met.range p s checked) (met.rule p s checked) in
+    let laws = table_laws g.P.Policy.meaning met.total met.transitive met.earlier met.range met.rule p c.args.table.now in
     let inv = c.loop-time.invariant in
     let course = c.args.course.now in
     let d = c.loop-time.playing.run.station in

@@ -2,7 +2,7 @@ use Rattle.std.proofs.Common.{rules}
 use Rattle.table.specs.Model.{content}
 use Rattle.table.proofs.Tables.{table_checked}
 use Rattle.policy.specs.Laws.{Lawful}
-use Rattle.policy.proofs.Lawfulness.{lawful}
+use Rattle.policy.proofs.Lawfulness.{table_laws}
 use Rattle.report.proofs.Pages.{settled}
 use Rattle.report.proofs.Prints.{printed, printed_short}
 use Rattle.report.proofs.whole.report.Goals as goal
@@ -15,7 +15,7 @@ returns g c =
     let o = g.P.Policy.meaning p s in
     let met = g.met.P.Policy in
     let checked = table_checked t in
-    let law : Lawful s o = lawful s o (met.total p s checked) (met.transitive p s checked) (met.earlier p s checked) (met.range p s checked) (met.rule p s checked) in
+    let law : Lawful s o = table_laws g.P.Policy.meaning met.total met.transitive met.earlier met.range met.rule p t in
     let done = printed s o c.args.rows.now c.judge.new.rows c.in_ok-judgement.judgement checked law c.in_ok-judgement.ensures.judged c.if-out-lt-OUTPUT_BYTES.false (settled c.put_report.ensures (search rules) (search rules) (search rules) c.written.ensures) in
     record {
       reported = done;

@@ -5,7 +5,7 @@ use Rattle.table.specs.Rules.{task_count}
 use Rattle.analysis.specs.Lanes.{no_lane, lane_at}
 use Rattle.analysis.specs.Reaches.{LaneTo}
 use Rattle.analysis.proofs.Filling.{few_tasks, found_ranges, made_by}
-use Rattle.analysis.proofs.Laws.{table_laws}
+use Rattle.policy.proofs.Lawfulness.{table_laws}
 use Rattle.analysis.proofs.OneRow.{own_is, front_fits, front_worst}
 use Rattle.analysis.specs.declared.window.Own.{Own}
 use Rattle.analysis.proofs.judging.Analysis.row_of.Goals as goal

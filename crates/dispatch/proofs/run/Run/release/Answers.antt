@@ -1,7 +1,6 @@
 use Rattle.std.proofs.Common.{refl}
 use Rattle.table.specs.Model.{content}
-use Rattle.table.proofs.Tables.{table_checked}
-use Rattle.policy.proofs.Lawfulness.{lawful}
+use Rattle.policy.proofs.Lawfulness.{table_laws}
 use Rattle.dispatch.proofs.Kept.{refused_so}
 use Rattle.dispatch.proofs.run.Run.release.Goals as goal
 
@@ -11,8 +10,7 @@ returns g c =
     let p = c.args.self.now.policy in
     let s = content d.table in
     let met = g.met.P.Policy in
-    let checked = table_checked d.table in
-    let laws = lawful s (g.P.Policy.meaning p s) (met.total p s checked) (met.transitive p s checked) (met.earlier p s checked) (met.range p s checked) (met.rule p s checked) in
+    let laws = table_laws g.P.Policy.meaning met.total met.transitive met.earlier met.range met.rule p d.table in
     record {
       policy = refl;
       table = c.release.ensures.table;

@@ -2,7 +2,7 @@ use Rattle.std.proofs.Common.{◌<◌, sym, refl, subst}
 use Rattle.std.proofs.lemmas.Bool.{leb-true, leb-false}
 use Rattle.table.specs.Model.{content}
 use Rattle.table.proofs.Tables.{table_checked}
-use Rattle.policy.proofs.Lawfulness.{lawful}
+use Rattle.policy.proofs.Lawfulness.{table_laws}
 use Rattle.theory.specs.Machine.{tick}
 use Rattle.dispatch.specs.Lines.{board}
 use Rattle.dispatch.specs.Replies.{ticked_told}
@@ -34,7 +34,7 @@ returns g c = record {
       let o = g.P.Policy.meaning p s in
       let met = g.met.P.Policy in
       let checked = table_checked d.table in
-      let laws = lawful s (g.P.Policy.meaning p s) (met.total p s checked) (met.transitive p s checked) (met.earlier p s checked) (met.range p s checked) (met.rule p s checked) in
+      let laws = table_laws g.P.Policy.meaning met.total met.transitive met.earlier met.range met.rule p d.table in
       let early : d.time < 4000000000 = leb-false 4000000000 d.time (sym c.if-is_over.ensures) in
       let n = tick_moves s o calls d.time (board d.lines) d.stage rep checked laws c.args.done early (λ j h. boards_plain d.lines j) c.pick-chosen.result c.pick-chosen.ensures (board e.lines) e.stage c.advance.result c.advance.ensures.moved in
       answered_next d e o calls (tick c.args.done) (ticked_told c.advance.result) c.advance.ensures.table (subst (λ t. Next s o calls (tick c.args.done) t (board e.lines) e.stage (ticked_told c.advance.result)) (sym c.advance.ensures.time) n);
