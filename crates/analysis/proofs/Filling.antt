@@ -42,3 +42,10 @@ made_by g P d f ys each (suc n) i (q, y, at, call, rest) j low high = go (eqb i 
     go false e later =
         let apart : i + 1 ≤ j = grind (arith, nat_tests) in
         later apart
+
+-- the first n elements, as a part up to n is written
+pub front_long : {X : Type 0} (xs : List X) (n : ℕ) → n ≤ length xs → length (take (n - 0) xs) ≡ n
+front_long xs n few = length-take-le (n - 0) xs (omega arith) ∙ omega arith
+
+pub front_at : {X : Type 0} (xs : List X) (n j : ℕ) (d : X) → j < n → get_or (take (n - 0) xs) j d ≡ get_or xs j d
+front_at xs n j d h = get_or-take (n - 0) xs j d (omega arith)

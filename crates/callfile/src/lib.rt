@@ -6,16 +6,16 @@ ghost use Rattle.callfile.specs.Said.{call_said, calls_said, laid_over};
 
 use dispatch::{Event, Reply, Step, Ticked};
 
-// The call that a byte says.
+// The call that a byte says. No `TryFrom`: byte and call are types of other crates.
 fn call_of(byte: u8) -> Option<Event>
     ensures { result ≡ call_said byte }
 {
     match byte {
         b'A'..=b'Z' => Some(Event::Release {
-            task: (byte - b'A') as usize,
+            task: usize::from(byte - b'A'),
         }),
         b'a'..=b'z' => Some(Event::Look {
-            task: (byte - b'a') as usize,
+            task: usize::from(byte - b'a'),
         }),
         b'.' => Some(Event::Tick { done: false }),
         b'!' => Some(Event::Tick { done: true }),

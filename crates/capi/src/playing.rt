@@ -16,6 +16,7 @@ fn play<P: Policy + Drop>(policy: P, table: &Table, steps: &mut [Step])
     ensures { Played (content table.now) (P.meaning policy (content table.now)) steps.old steps.new }
 {
     let mut run = Run::new(policy, table);
+    // The same two lines as in `dispatch::replay`, with steps laid out for C.
     for step in steps.iter_mut() {
         step.reply = Reply::from(run.call(Event::from(step.call)));
     }

@@ -55,7 +55,7 @@ impl Classes {
             .map_or(0, |member| member.offset.min(LARGEST_OFFSET))
     }
 
-    // `key` and `reach_within` repeat `policy::keys`: its functions require their numbers to be small, and a public function requires nothing.
+    // `key` and `reach_within` repeat `policy::keys`, which is private: its reach requires numbers up to 65,535, offsets here reach 99,999, and a public function requires nothing.
     fn key(&self, job: Job) -> i64
         requires { on_clock job.release ≡ true }
         ensures { result ≡ job.release +ℤ pos (offset_at (offsets_of self.now.members) job.task) }

@@ -3,7 +3,7 @@ ghost use Rattle.std.specs.Prelude.{◌≡◌, ◌+◌, ◌≤◌, length};
 
 /// The first `len` of `releases` wait, the oldest first; only the oldest may have run.
 /// `ran` stands last, so that a tick that finishes nothing writes it alone.
-/// A fixed buffer with its length: the crate has no heap, and a line is copied.
+/// A fixed buffer with its length: there is no heap, a line is copied, and the kit's `ArrayVec` is not `Copy`.
 #[derive(Clone, Copy)]
 pub struct Line {
     releases: [u32; 8],

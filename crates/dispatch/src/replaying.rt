@@ -15,6 +15,7 @@ pub fn replay<P: Policy + Drop>(policy: P, table: &Table, steps: &mut [Step])
     ensures answers { answers_in steps.new ≡ answers (content table.now) (P.meaning policy (content table.now)) start (calls_of steps.old) }
 {
     let mut run = Run::new(policy, table);
+    // The same two lines as in `capi`, whose steps are laid out for C.
     for step in steps.iter_mut() {
         step.answer = run.call(step.call);
     }

@@ -5,7 +5,7 @@ ghost use Rattle.dispatch.specs.Leading.{head_job};
 use policy::Job;
 
 /// Whether a job is begun that may not be displaced, and of which task.
-/// An enum of the run's own: a tick matches it together with its event and changes it in place.
+/// An enum of the run's own and no Option, as was asked for: a tick matches it together with its event and changes it in place.
 #[derive(Clone, Copy)]
 pub enum Stage {
     Idle,

@@ -10,6 +10,7 @@ use table::Table;
 pub struct Station {
     table: Table,
     time: u32,
+    // Beside the table's tasks, by their numbers: a table is handed to policies as it is.
     lines: [Line; 24],
     stage: Stage,
     ghost room: { length lines ≡ 24 },

@@ -11,7 +11,7 @@ use table::Table;
 #[derive(Clone, Copy)]
 pub struct Arrival;
 
-// What it shares with Deadline is in `keys`; an impl for every order by a key would overlap with those of Fixed and Bands.
+// What it shares with Deadline is in `keys`. Two types and no generic one: callers write either name as a value.
 impl Policy for Arrival {
     ghost meaning = { λ _ _. arrival_order };
 

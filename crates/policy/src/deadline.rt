@@ -12,7 +12,7 @@ use table::Table;
 #[derive(Clone, Copy)]
 pub struct Deadline;
 
-// What it shares with Arrival is in `keys`; an impl for every order by a key would overlap with those of Fixed and Bands.
+// What it shares with Arrival is in `keys`. Two types and no generic one: callers write either name as a value.
 impl Policy for Deadline {
     ghost meaning = { λ _ s. deadline_order s };
 

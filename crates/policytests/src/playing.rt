@@ -5,7 +5,7 @@ use analysis::Row;
 use dispatch::{Counts, Run, Ticked};
 use policy::Policy;
 use rehearsal::play_worst_course;
-use table::{Name, Table, Task};
+use table::{Table, Task};
 
 /// A task by its C, T, D and rank.
 pub fn task(cost: u32, period: u32, deadline: u32, rank: u8) -> Task {
@@ -14,7 +14,7 @@ pub fn task(cost: u32, period: u32, deadline: u32, rank: u8) -> Task {
         period,
         deadline,
         rank,
-        name: Name::single(),
+        ..Task::fresh()
     }
 }
 

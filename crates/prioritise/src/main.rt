@@ -17,6 +17,7 @@ fn print_task(rt: &HostRuntime, number: usize, task: &Task, row: &Row) -> io::Re
 }
 
 fn print_order(rt: &HostRuntime, table: &Table, rows: &[Row]) -> io::Result<()> {
+    // By rank; a search for each, as a table keeps its tasks in their own order.
     for rank in 1..=MOST_TASKS {
         let mut lines = table.tasks().iter().zip(rows).enumerate();
         let line = lines.find(|(_, (task, _))| usize::from(task.rank) == rank);

@@ -1,6 +1,6 @@
 //! The assignment on small tables.
 use crate::assign_priorities;
-use table::{Mode, Name, PolicyCode, Refusal, Table, Task};
+use table::{Mode, PolicyCode, Refusal, Table, Task};
 
 fn task(cost: u32, period: u32, deadline: u32, rank: u8) -> Task {
     Task {
@@ -8,7 +8,7 @@ fn task(cost: u32, period: u32, deadline: u32, rank: u8) -> Task {
         period,
         deadline,
         rank,
-        name: Name::single(),
+        ..Task::fresh()
     }
 }
 

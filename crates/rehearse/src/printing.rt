@@ -29,6 +29,7 @@ fn print_timeline(rt: &HostRuntime, table: &Table, task: usize, row: Row) -> io:
     let Some(ticks) = ticks_to_draw(row) else {
         return Ok(());
     };
+    // By number, which is what the drawing is asked for.
     for job in 0..table.count() {
         let mut marks = [b'.'; 200];
         let line = &mut marks[..ticks];

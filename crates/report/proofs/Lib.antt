@@ -1,4 +1,5 @@
 pub mod Pastes
+pub mod Figures
 pub mod Pages
 pub mod TaskLines
 pub mod Lengths

@@ -10,6 +10,7 @@ use crate::page::{NEWLINE, Page, SPACE};
 use analysis::{Judgement, Row, Verdict};
 use table::{Table, Task};
 
+// A word as bytes and no `Display`, as in `page`: a report is written into lent bytes.
 fn row_word(row: &Row) -> &'static [u8]
     ensures { result.now ≡ row_word row.now }
 {
@@ -20,6 +21,7 @@ fn row_word(row: &Row) -> &'static [u8]
     }
 }
 
+// A word as bytes, likewise.
 fn verdict_word(verdict: Verdict) -> &'static [u8]
     ensures { result.now ≡ verdict_word verdict }
 {

@@ -20,6 +20,7 @@ pub fn put_bytes(out: &mut [u8], at: usize, bytes: &[u8]) -> usize
 }
 
 /// Writes the number in decimal from the place on and answers how many digits; where they do not fit it writes nothing and answers 0.
+// Not an Option: a count, as above.
 pub fn put_number(out: &mut [u8], at: usize, number: u32) -> usize
     ensures { Put out.old at (decimal number) out.new result }
 {

@@ -37,6 +37,7 @@ fn put_line(out: &mut [u8], refusal: Refusal) -> usize
 
 /// Writes the line of the refusal at the start of the output and answers its length; where it does not fit it writes nothing and answers 0.
 /// In `REFUSAL_BYTES` bytes every line fits.
+// Not an Option: the answer is a count of bytes, as of `put_bytes`.
 pub fn put_refusal(out: &mut [u8], refusal: Refusal) -> usize
     ensures line { Put out.old 0 (refusal_text refusal) out.new result }
     ensures short { length (refusal_text refusal) ≤ refusal_bytes }

@@ -7,7 +7,7 @@ use crate::kinds::{Mode, PolicyCode};
 use crate::task::{MOST_TASKS, Task};
 
 /// A table of 1 to 24 tasks: the first `count` of `tasks`.
-// A buffer with its length, as there is no heap. No `Model`: the task set forgets the places behind `count`, so it gives no table back, and `Copy` needs that.
+// A buffer with its length: there is no heap, and the kit's `ArrayVec` is not `Copy`. No derived equality: equal tables may differ behind their last task. No `Model`: the task set forgets the places behind `count`, so it gives no table back, and `Copy` needs that.
 #[derive(Clone, Copy)]
 pub struct Table {
     policy: PolicyCode,

@@ -1,5 +1,5 @@
 //! All lanes of an analysis together.
-// A slice with a clause `few`: a struct that carried the bound would be a buffer with a length beside it.
+// A slice with a clause `few`: it is lent by the one function that fills it, and a struct round it would be made for that call alone.
 ghost use Rattle.std.specs.Prelude.{◌≡◌, ℕ, ◌+◌, ◌*◌, ◌^◌, ◌≤◌, map, length};
 ghost use Rattle.analysis.specs.Climb.{Climbed};
 ghost use Rattle.analysis.specs.Lanes.{lanes_work, limited, lanes_block};

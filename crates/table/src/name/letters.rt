@@ -24,7 +24,7 @@ impl Name {
         ensures { Named bytes.now result }
     {
         let len = bytes.len();
-        if len < 1 || MOST_LETTERS < len || !all_name_bytes(bytes) {
+        if !(1..=MOST_LETTERS).contains(&len) || !all_name_bytes(bytes) {
             return None;
         }
         let mut room = [0u8; MOST_LETTERS];
