@@ -1,5 +1,5 @@
 -- Filling a list, one element after the other or by `from_fn`, and what a table finds.
-use Rattle.std.proofs.Common.{◌≡◌, ℕ, zero, suc, Bool, true, false, eqb, refl, ◌+◌, ◌<◌, ◌≤◌, List, length, get_or, drop, set, Some, sym, ap, ◌∙◌, subst, arith, get_or-set_other, get_or-set_same, drop-drop, drop-set-lt, below_more}
+use Rattle.std.proofs.Common.{◌≡◌, ℕ, zero, suc, Bool, true, false, eqb, refl, ◌+◌, ◌-◌, ◌<◌, ◌≤◌, List, length, get_or, take, drop, set, Some, sym, ap, ◌∙◌, subst, arith, get_or-set_other, get_or-set_same, get_or-take, length-take-le, drop-drop, drop-set-lt, below_more}
 use Rattle.std.specs.Fn.{Called, Mut}
 use Rattle.std.specs.Array.{IsFromFnResultFrom}
 use Rattle.std.proofs.lemmas.Bool.Decides.{nat_tests}
