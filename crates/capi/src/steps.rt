@@ -20,8 +20,9 @@ impl From<Call> for Event {
     fn from(call: Call) -> Event {
         match call.kind {
             0 => Event::Release { task: call.task },
-            1 => Event::Tick { done: false },
-            2 => Event::Tick { done: true },
+            1 | 2 => Event::Tick {
+                done: call.kind == 2,
+            },
             _ => Event::Look { task: call.task },
         }
     }
