@@ -99,7 +99,7 @@ fn attains<P: Policy + Drop>(policy: P, table: &Table, task: usize, row: Row) ->
 }
 
 /// The first task whose worst course does not show its response.
-pub fn unattained<P: Policy + Drop, F: Fn() -> P>(
+pub(crate) fn unattained<P: Policy + Drop, F: Fn() -> P>(
     policy: F,
     table: &Table,
     rows: &[Row],

@@ -4,10 +4,10 @@ use Rattle.table.specs.Rules.{TaskSet, task_at, task_count}
 use Rattle.table.specs.Sporadic.{Sporadic}
 use Rattle.table.specs.Words.{mode_word, policy_word}
 use Rattle.analysis.specs.Judged.{row_at}
+use Rattle.analysis.specs.Shown.{verdict_text}
 use Rattle.analysis.specs.declared.rows.Row.{Row}
 use Rattle.analysis.specs.declared.rows.Judgement.{Judgement}
 use Rattle.analysis.specs.declared.rows.Verdict.{Verdict}
-use Rattle.analysis.specs.declared.rows.Verdict.TheVariants.{Admitted, Late}
 
 -- a word with the space or the line end behind it
 abbrev pub followed : List ℕ → ℕ → List ℕ
@@ -38,8 +38,7 @@ task_lines s rows zero = []
 task_lines s rows (suc n) = task_lines s rows n ++ task_line n (task_at s n) (row_at rows n)
 
 abbrev pub verdict_word : Verdict → List ℕ
-verdict_word Admitted = codes "admitted"
-verdict_word (Late k) = codes "late"
+verdict_word = verdict_text
 
 abbrev pub verdict_line : Verdict → List ℕ
 verdict_line v = line (verdict_word v ∷ [])

@@ -43,7 +43,7 @@ returns g c =
     let after = front ++ rest in
     let found : Busy s (Some c.in_ok-busy.busy) = subst (Busy s) c.in_ok-busy.ensures.ok_part c.busy_period.ensures in
     let j : Judgement = record { busy_period = c.in_ok-busy.busy; verdict = c.verdict.result } in
-    let long : length front ≡ task_count s = omega (arith, c.fill.auto.rows, length-take-le n c.args.rows.now c.if-rows-count.false, c.count-count.ensures) in
+    let long : length front ≡ task_count s = omega (arith, c.fill.auto.rows, length-take-le n c.args.rows.now (omega (arith, c.if-rows-count.false)), c.count-count.ensures) in
     let given : Given s o c.args.rows.now after j = record {
       enough = omega (arith, c.if-rows-count.false, c.count-count.ensures);
       short = found.0;
