@@ -38,7 +38,7 @@ fn put_header(page: &mut Page, table: &Table)
     page.word(table.policy().word(), SPACE);
     page.word(table.mode().word(), SPACE);
     page.word(b"tasks", SPACE);
-    page.number(table.count(), NEWLINE);
+    page.number(table.count() as u32, NEWLINE);
 }
 
 // The busy period.
@@ -51,7 +51,7 @@ fn put_stretch(page: &mut Page, busy_period: u32)
 
 // One task.
 #[tactic(auto, using(crate::proofs::Pages::then))]
-fn put_row(page: &mut Page, number: usize, task: &Task, row: &Row)
+fn put_row(page: &mut Page, number: u32, task: &Task, row: &Row)
     ensures { Written page.old (task_line number (sporadic task.now) row.now) page.new }
 {
     page.number(number, SPACE);
@@ -68,7 +68,7 @@ fn put_rows(page: &mut Page, table: &Table, rows: &[Row])
     ensures { Written page.old (task_lines (content table.now) rows.now (task_count (content table.now))) page.new }
 {
     for (number, (task, row)) in table.tasks().iter().zip(rows).enumerate() {
-        put_row(page, number, task, row);
+        put_row(page, number as u32, task, row);
     }
 }
 

@@ -1,9 +1,8 @@
 //! A lent output that is written word by word.
-ghost use Rattle.std.specs.Prelude.{◌≡◌};
+ghost use Rattle.std.specs.Prelude.{◌≡◌, decimal};
 ghost use Rattle.report.specs.Text.{followed};
 
-use crate::place::put_bytes;
-use itoa::{Buffer, Integer};
+use crate::place::{put_bytes, put_number};
 
 pub(crate) const SPACE: u8 = b' ';
 
@@ -45,9 +44,10 @@ impl<'a> Page<'a> {
     }
 
     // Writes a number in decimal and the byte behind it.
-    pub(crate) fn number<I: Integer>(&mut self, number: I, end: u8)
-        ensures { Written self.old (followed (I.text number) end) self.new }
+    pub(crate) fn number(&mut self, number: u32, end: u8)
+        ensures { Written self.old (followed (decimal number) end) self.new }
     {
-        self.word(Buffer::new().format(number).as_bytes(), end);
+        self.free += put_number(self.out, self.free, number);
+        self.free += put_bytes(self.out, self.free, &[end]);
     }
 }

@@ -7,6 +7,7 @@ ghost use Rattle.report.specs.Written.{Written};
 
 use crate::page::{NEWLINE, Page, SPACE};
 use crate::place::put_bytes;
+use itoa::Buffer;
 use table::Refusal;
 
 /// The longest refusal line: `refused`, a number of two digits, a place of twenty.
@@ -18,7 +19,8 @@ fn put_place(page: &mut Page, place: Option<usize>)
     ensures few { length (place_word place) ≤ 20 }
 {
     match place {
-        Some(place) => page.number(place, NEWLINE),
+        // By the library and not by `put_number`: a place may take more than 32 bits.
+        Some(place) => page.word(Buffer::new().format(place).as_bytes(), NEWLINE),
         None => page.word(b"-", NEWLINE),
     }
 }
@@ -30,7 +32,7 @@ fn put_line(out: &mut [u8], refusal: Refusal) -> usize
 {
     let mut page = Page::new(out);
     page.word(b"refused", SPACE);
-    page.number(refusal.number(), SPACE);
+    page.number(u32::from(refusal.number()), SPACE);
     put_place(&mut page, refusal.place());
     page.written()
 }
