@@ -1,5 +1,5 @@
 -- Two pastes in a row are one.
-use Rattle.std.proofs.Common.{◌≡◌, ℕ, ◌+◌, ◌≤◌, List, [], ◌++◌, length, take, drop, sym, ap, ◌∙◌, append_assoc, add-zero, arith, length-append, length-drop, take-append-drop, length-take-le, drop-drop, take_at, drop_at}
+use Rattle.std.proofs.Common.{◌≡◌, ℕ, ◌+◌, ◌≤◌, List, [], ◌++◌, length, take, drop, decimal, sym, ap, ◌∙◌, subst, append_assoc, add-zero, arith, length-append, length-drop, take-append-drop, length-take-le, drop-drop, take_at, drop_at}
 use Rattle.report.specs.Pasted.{pasted, Put, Appended}
 
 -- the front of the output up to the end of what was pasted
@@ -49,6 +49,10 @@ nothing out at = record { done = λ h. (paste_none out at, omega arith) }
 
 pub appended : {before : List ℕ} {at : ℕ} {bytes after : List ℕ} {answer : ℕ} → Put before at bytes after answer → Appended before at bytes after (at + answer)
 appended {before} {at} {bytes} {after} {answer} p = record { done = λ h. ((p.fits h).0, ap (λ k. at + k) (p.fits h).1) }
+
+-- the digits of a number are those of any number that it equals
+pub counted : {before : List ℕ} {at m n : ℕ} {after : List ℕ} {next : ℕ} → m ≡ n → Appended before at (decimal m) after next → Appended before at (decimal n) after next
+counted {before} {at} {m} {n} {after} {next} e p = subst (λ k. Appended before at (decimal k) after next) e p
 
 -- a text put at the start is the front of what then stands there
 pub first_bytes : {before text after : List ℕ} {len : ℕ} → Appended before 0 text after len → length text ≤ length before → (len ≡ length text) × (len ≤ length after) × (take len after ≡ text)
